@@ -4,5 +4,6 @@ pub mod Steps
 pub mod Calls
 -- start, hello, bye, go, answer: what each comes to
 pub mod Answering
--- for the crates above: the replies of `handle` are messages
+-- for the crates above: the replies of `handle` are messages; a server whose sessions are ended behind a message was stopped at it
 pub mod Messages
+pub mod StoppedBehind

@@ -1,4 +1,5 @@
 //! The laws of the server, over whole runs: each is the contract of a function that does nothing.
+ghost use Rattle.session_meaning.specs.Begun.{ServersMayBegin};
 ghost use Rattle.session_meaning.specs.Isolation.{SessionsAreIsolated};
 ghost use Rattle.session_meaning.specs.ReplyLaws.{ProofsAreLimited, RepliesAreMessages};
 ghost use Rattle.session_meaning.specs.ServerLaws.{LimitsHold, OnlyGoCommits, OnlyUpdatesCommit, ProofsAreHonest, RoundsAreOwn, TurnsByCalls, UpdatesCommit, VersionsAreCommitted};
@@ -7,7 +8,8 @@ ghost use Rattle.session_meaning.specs.Stopped.{HistoryGoesOn, StopsKeepHistory}
 /// The server, whatever is heard, and in whatever number of turns each call ends.
 ///
 /// `versions`: each version but the first is made of the one before it by its commit, from the start; `goes_on` says so from
-/// each server with such a history, and `stopped` of a step that memory is wanting for. `proofs`: each proof that is sent is the
+/// each server with such a history, and `stopped` of a step that memory is wanting for. `begun`: what a server has behind whatever it
+/// heard is what one may begin with. `proofs`: each proof that is sent is the
 /// honest one of the call that ran in its session, on the session's own version. `commits`, `only` and `only_go`: an update
 /// commits exactly where its version is the last one as its run ends, and nothing else does. `rounds`: rounds leave to each
 /// session what its own call makes of it, and `turns` says in which turn a run of so many calls ends. `limits`: there are never
@@ -22,6 +24,7 @@ pub fn server_run()
     ensures limits { LimitsHold }
     ensures goes_on { HistoryGoesOn }
     ensures stopped { StopsKeepHistory }
+    ensures begun { ServersMayBegin }
     ensures turns { TurnsByCalls }
 {
     session_meaning::laws::server_run();

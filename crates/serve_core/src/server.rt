@@ -77,6 +77,26 @@ impl<H: Hash32, G: Gate + Drop> ServeCore<H, G> {
         })
     }
 
+    /// A server with the versions and the commits of what is shared, before its first connection. A turn makes at most `slice` calls of
+    /// functions, 1 at least, and passes the gate first.
+    pub fn resume(alloc: Global, code: Code, shared: Shared, slice: u64, gate: G) -> Self
+        requires { 0 < slice }
+        ensures serves { let P = program_of code in (begun : meant.Shared) → Shares H.hash P shared begun → Serves H.hash result (meant.begun_server begun) }
+        ensures code { result.code ≡ code }
+        ensures slice { result.slice ≡ slice }
+        ensures shared { result.shared ≡ shared }
+    {
+        ServeCore {
+            alloc,
+            code,
+            slice,
+            shared,
+            heard: 0,
+            sessions: Table::new(alloc),
+            gate,
+        }
+    }
+
     /// Hears a message, and answers it. The turns of a round run at once on threads; the answer is that of one thread.
     ///
     /// # Errors
@@ -157,8 +177,8 @@ impl<H: Hash32, G: Gate + Drop> ServeCore<H, G> {
         Ok(replies)
     }
 
-    /// Ends all sessions: the next message is the first of a connection.
-    fn end_sessions(&mut self)
+    /// Ends all sessions: the next message is the first of a connection. Calls that run are dropped.
+    pub fn end_sessions(&mut self)
         ensures sessions { rows_of self.new.sessions ≡ [] }
         ensures heard { self.new.heard ≡ 0 }
         ensures shared { self.new.shared ≡ self.old.shared }

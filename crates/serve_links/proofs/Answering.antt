@@ -1,32 +1,36 @@
 -- A message that is answered, and what that makes of the connection: for answer and serve_message.
-use Rattle.std.proofs.Common.{inl, inr, ◌≡◌, ℕ, Bool, true, false, List, [], ◌∷◌, take, not, ◌&&◌, Option, Some, None, Result, Ok, Err, IsErrAnd, refl, sym, ap, subst, ◌∙◌, arith}
+use Rattle.std.proofs.Common.{inl, inr, ◌≡◌, ℕ, Bool, true, false, List, [], ◌∷◌, take, not, ◌&&◌, Option, length, ◌<◌, Result, Ok, Err, IsErrAnd, refl, sym, ap, subst, ◌∙◌, arith}
 use Rattle.std.specs.Io.KnownBytes.{append_known}
 use Rattle.lam_outside.proofs.Moved.{append_none}
 use Rattle.core_terms.specs.Formats.{Hash}
+use Rattle.session_meaning.specs.Calls.{RoleCall}
 use Rattle.session_meaning.specs.Server as meant
 use Rattle.session_meaning.specs.Server.{Server, Hears, HearsBad, HearsEnd, handle, server_after, messages_limit}
 use Rattle.session_meaning.specs.ReplyLaws.{IsHeard}
 use Rattle.serve_core.specs.Serving.{Serves}
 use Rattle.serve_core.specs.declared.server.ServeCore.{ServeCore}
+use Rattle.wire_form.specs.declared.message.WriteStop.{WriteStop}
+use Rattle.wire_form.specs.declared.message.WriteStop.TheVariants as write
+use Rattle.link_ends.specs.Halts.{halt_of}
 use Rattle.link_ends.specs.declared.halt.Halt.{Halt}
 use Rattle.link_ends.specs.declared.halt.Halt.TheVariants as halt
 use Rattle.serve_links.specs.Connections.{bytes_of}
 use Rattle.serve_links.specs.Histories.{HasServed, HasSameCode, own_digest, program_served, step_of, turns_of}
-use Rattle.serve_links.specs.Messages.{Answers, AnswersPart, BreaksOff, ComesNext, CountsMessage, HearsNext, ServesMessage, StaysServing, asks}
+use Rattle.serve_links.specs.Messages.{Answers, AnswersPart, BreaksOff, ComesNext, CountsMessage, HearsNext, IsStoppedAt, ServesMessage, StaysServing, asks}
 use Rattle.serve_links.proofs.Broken.{first_cut, first_part, first_stopped, none_cut, none_heard, over_at}
 use Rattle.serve_links.proofs.Serving.{open_counts, served_more}
 
-module _ (hash : Hash) {A G : Type 0} (old new : ServeCore A G) (server : Server) (sent sent' : Option (List ℕ)) where
+module _ (hash : Hash) (Kept : (told made : List RoleCall) → Type 0) {A G : Type 0} (old new : ServeCore A G) (server : Server) (sent sent' : Option (List ℕ)) where
   -- a message was read and answered
   message_served : (bytes : List ℕ) (left' : Option (List ℕ)) (m : meant.Heard) (closing : Bool) → ComesNext bytes left' m
-      → Answers hash old new server sent sent' m (Ok closing) → ServesMessage hash old new server sent sent' bytes left' (Ok (asks m && not closing))
+      → Answers hash Kept old new server sent sent' m (Ok closing) → ServesMessage hash Kept old new server sent sent' bytes left' (Ok (asks m && not closing))
   message_served bytes left' (Hears r) true next answers = record {
     taken = next.0;
     takes = next.1;
     out = bytes_of (step_of hash old server (Hears r)).replies;
     behind = (step_of hash old server (Hears r)).server;
     sends = answers.0;
-    served = over_at hash (program_served old) (own_digest old) (turns_of old) server bytes left' (Hears r) next (λ other is. sym answers.1);
+    served = over_at hash (program_served old) (own_digest old) (turns_of old) Kept server bytes left' (Hears r) next (λ other is. sym answers.1);
     serves = answers.2;
   }
   message_served bytes left' (Hears r) false next answers = record {
@@ -46,7 +50,7 @@ module _ (hash : Hash) {A G : Type 0} (old new : ServeCore A G) (server : Server
     out = bytes_of (step_of hash old server HearsBad).replies;
     behind = (step_of hash old server HearsBad).server;
     sends = answers.0;
-    served = over_at hash (program_served old) (own_digest old) (turns_of old) server bytes left' HearsBad next (λ other is. absurd (cc (is)));
+    served = over_at hash (program_served old) (own_digest old) (turns_of old) Kept server bytes left' HearsBad next (λ other is. absurd (cc (is)));
     serves = answers.2;
   }
   message_served bytes left' HearsEnd closing next answers = record {
@@ -55,13 +59,13 @@ module _ (hash : Hash) {A G : Type 0} (old new : ServeCore A G) (server : Server
     out = bytes_of (step_of hash old server HearsEnd).replies;
     behind = (step_of hash old server HearsEnd).server;
     sends = answers.0;
-    served = over_at hash (program_served old) (own_digest old) (turns_of old) server bytes left' HearsEnd next (λ other is. absurd (cc (is)));
+    served = over_at hash (program_served old) (own_digest old) (turns_of old) Kept server bytes left' HearsEnd next (λ other is. absurd (cc (is)));
     serves = answers.2;
   }
 
   -- a message was read, and its replies were sent in part or not at all
-  part_served : (bytes : List ℕ) (left' : Option (List ℕ)) (m : meant.Heard) → ComesNext bytes left' m → AnswersPart hash old new server sent sent' m
-      → BreaksOff hash old new server sent sent' bytes left'
+  part_served : (bytes : List ℕ) (left' : Option (List ℕ)) (m : meant.Heard) → ComesNext bytes left' m → AnswersPart hash Kept old new server sent sent' m
+      → BreaksOff hash Kept old new server sent sent' bytes left'
   part_served bytes left' m next part = record {
     heard = m ∷ [];
     taken = next.0;
@@ -74,52 +78,76 @@ module _ (hash : Hash) {A G : Type 0} (old new : ServeCore A G) (server : Server
   }
 
   message_broken : (bytes : List ℕ) (left' : Option (List ℕ)) (m : meant.Heard) (stop : Halt) (result : Result Bool Halt) → IsErrAnd result (λ e. e ≡ stop)
-      → ComesNext bytes left' m → Answers hash old new server sent sent' m (Err stop) → ServesMessage hash old new server sent sent' bytes left' result
+      → ComesNext bytes left' m → Answers hash Kept old new server sent sent' m (Err stop) → ServesMessage hash Kept old new server sent sent' bytes left' result
+  unfolding part_served
   message_broken bytes left' m stop (Ok on) handed next answers = absurd handed
   message_broken bytes left' m stop (Err e) handed next answers =
-      let P : Halt → Type 0 = λ e. ServesMessage hash old new server sent sent' bytes left' (Err e) in subst P (sym handed) (by stop answers)
+      let P : Halt → Type 0 = λ e. ServesMessage hash Kept old new server sent sent' bytes left' (Err e) in subst P (sym handed) (by stop answers)
     where
-      by : (stop : Halt) → Answers hash old new server sent sent' m (Err stop) → ServesMessage hash old new server sent sent' bytes left' (Err stop)
+      by : (stop : Halt) → Answers hash Kept old new server sent sent' m (Err stop) → ServesMessage hash Kept old new server sent sent' bytes left' (Err stop)
       by halt.LinkFault part = part_served bytes left' m next part
-      by halt.NoMemory (inl part) =
-          let broken = part_served bytes left' m next part in
-          record { taken = broken.taken; takes = broken.takes; out = broken.out; behind = _; sends = broken.sends; served = (broken.heard, broken.broken, inl refl); serves = broken.serves }
-      by halt.NoMemory (inr stopped) = record {
+      by halt.Stopped (inl all) =
+          let broken = part_served bytes left' m next all.0 in
+          record { taken = broken.taken; takes = broken.takes; out = broken.out; behind = _; sends = broken.sends; served = (broken.heard, broken.broken, inl refl, all.1); serves = broken.serves }
+      by halt.Stopped (inr stopped) = record {
         taken = next.0;
         takes = next.1;
         out = [];
         behind = stopped.1.0;
         sends = stopped.0 ∙ sym (append_none sent);
-        served = first_stopped hash (program_served old) (own_digest old) (turns_of old) server bytes next.0 left' m stopped.1.0 next stopped.1.1;
+        served = first_stopped hash (program_served old) (own_digest old) (turns_of old) Kept server bytes next.0 left' m stopped.1.0 next stopped.1.1 stopped.1.3;
         serves = stopped.1.2;
       }
 
+-- What a message comes to, by the error.
+module _ (hash : Hash) (Kept : (told made : List RoleCall) → Type 0) {A G : Type 0} (old new : ServeCore A G) (server : Server) (sent sent' : Option (List ℕ)) (m : meant.Heard) where
+  abbrev Comes : Halt → Type 0
+  Comes stop = Answers hash Kept old new server sent sent' m (Err stop)
+
+  -- the server was stopped at it
+  pub stops : (result : Result Bool Halt) → IsErrAnd result (λ e. e ≡ halt.Stopped) → IsStoppedAt hash Kept old new server sent sent' m → Answers hash Kept old new server sent sent' m result
+  stops (Ok closing) handed stopped = absurd handed
+  stops (Err e) handed stopped = subst Comes (sym handed) (inr stopped)
+
+  -- or a front of its replies was sent
+  pub part_sent : (stop : WriteStop) (result : Result Bool Halt) → IsErrAnd result (λ e. e ≡ halt_of stop)
+      → (let step = step_of hash old server m in
+      ((n : ℕ) × (n < length (bytes_of step.replies)) × (sent' ≡ append_known sent (take n (bytes_of step.replies))))
+      → Serves hash new step.server → Kept step.server.shared.commits step.server.shared.commits → Answers hash Kept old new server sent sent' m result)
+  part_sent stop (Ok closing) handed part serves kept = absurd handed
+  part_sent stop (Err e) handed part serves kept = subst Comes (sym handed) (by stop)
+    where
+      by : (stop : WriteStop) → Comes (halt_of stop)
+      by write.LinkFault = (part.0, (let less = part.1 in omega (arith, less)), part.2, serves)
+      by write.NoMemory = inl ((part.0, (let less = part.1 in omega (arith, less)), part.2, serves), kept)
+
 -- The link told the same before the answer, and the message was read of it: the message was served, or the connection broke off.
-module _ (hash : Hash) {A G : Type 0} (old new : ServeCore A G) (server : Server) (sent0 sent1 sent2 : Option (List ℕ)) (bytes : List ℕ) (left1 left2 : Option (List ℕ)) (m : meant.Heard) where
+module _ (hash : Hash) (Kept : (told made : List RoleCall) → Type 0) {A G : Type 0} (old new : ServeCore A G) (server : Server) (sent0 sent1 sent2 : Option (List ℕ)) (bytes : List ℕ) (left1 left2 : Option (List ℕ)) (m : meant.Heard) where
   pub served_on : (closing b on : Bool) → on ≡ b && not closing → sent1 ≡ sent0 → left2 ≡ left1 → ComesNext bytes left1 m → asks m ≡ b
-      → Answers hash old new server sent1 sent2 m (Ok closing) → ServesMessage hash old new server sent0 sent2 bytes left2 (Ok on)
+      → Answers hash Kept old new server sent1 sent2 m (Ok closing) → ServesMessage hash Kept old new server sent0 sent2 bytes left2 (Ok on)
   served_on closing b on test same left next is answers =
-      let OfSent : Option (List ℕ) → Type 0 = λ w. Answers hash old new server w sent2 m (Ok closing) in
+      let OfSent : Option (List ℕ) → Type 0 = λ w. Answers hash Kept old new server w sent2 m (Ok closing) in
       let OfLeft : Option (List ℕ) → Type 0 = λ w. ComesNext bytes w m in
-      let OfOn : Bool → Type 0 = λ on. ServesMessage hash old new server sent0 sent2 bytes left2 (Ok on) in
-      subst OfOn (ap (λ b. b && not closing) is ∙ sym test) (message_served hash old new server sent0 sent2 bytes left2 m closing (subst OfLeft (sym left) next) (subst OfSent same answers))
+      let OfOn : Bool → Type 0 = λ on. ServesMessage hash Kept old new server sent0 sent2 bytes left2 (Ok on) in
+      subst OfOn (ap (λ b. b && not closing) is ∙ sym test) (message_served hash Kept old new server sent0 sent2 bytes left2 m closing (subst OfLeft (sym left) next) (subst OfSent same answers))
 
   pub broken_on : (stop : Halt) (result : Result Bool Halt) → IsErrAnd result (λ e. e ≡ stop) → sent1 ≡ sent0 → left2 ≡ left1 → ComesNext bytes left1 m
-      → Answers hash old new server sent1 sent2 m (Err stop) → ServesMessage hash old new server sent0 sent2 bytes left2 result
+      → Answers hash Kept old new server sent1 sent2 m (Err stop) → ServesMessage hash Kept old new server sent0 sent2 bytes left2 result
   broken_on stop result handed same left next answers =
-      let OfSent : Option (List ℕ) → Type 0 = λ w. Answers hash old new server w sent2 m (Err stop) in
+      let OfSent : Option (List ℕ) → Type 0 = λ w. Answers hash Kept old new server w sent2 m (Err stop) in
       let OfLeft : Option (List ℕ) → Type 0 = λ w. ComesNext bytes w m in
-      message_broken hash old new server sent0 sent2 bytes left2 m stop result handed (subst OfLeft (sym left) next) (subst OfSent same answers)
+      message_broken hash Kept old new server sent0 sent2 bytes left2 m stop result handed (subst OfLeft (sym left) next) (subst OfSent same answers)
 
 -- no message was read
-pub unread : (hash : Hash) {A G : Type 0} (core : ServeCore A G) (server : Server) (sent sent' : Option (List ℕ)) (bytes : List ℕ) (left' : Option (List ℕ)) (stop : Halt)
-    (result : Result Bool Halt) → IsErrAnd result (λ e. e ≡ stop) → sent' ≡ sent → HearsNext bytes left' (Err stop) → Serves hash core server
-    → ServesMessage hash core core server sent sent' bytes left' result
-unread hash core server sent sent' bytes left' stop (Ok on) handed same hears serves = absurd handed
-unread hash core server sent sent' bytes left' stop (Err e) handed same hears serves =
-    let P : Halt → Type 0 = λ e. ServesMessage hash core core server sent sent' bytes left' (Err e) in subst P (sym handed) (by stop hears)
+pub unread : (hash : Hash) (Kept : (told made : List RoleCall) → Type 0) {A G : Type 0} (core : ServeCore A G) (server : Server) (sent sent' : Option (List ℕ)) (bytes : List ℕ) (left' : Option (List ℕ)) (stop : Halt)
+    (result : Result Bool Halt) → IsErrAnd result (λ e. e ≡ stop) → sent' ≡ sent → HearsNext bytes left' (Err stop) → Kept server.shared.commits server.shared.commits
+    → Serves hash core server
+    → ServesMessage hash Kept core core server sent sent' bytes left' result
+unread hash Kept core server sent sent' bytes left' stop (Ok on) handed same hears kept serves = absurd handed
+unread hash Kept core server sent sent' bytes left' stop (Err e) handed same hears kept serves =
+    let P : Halt → Type 0 = λ e. ServesMessage hash Kept core core server sent sent' bytes left' (Err e) in subst P (sym handed) (by stop hears)
   where
-    by : (stop : Halt) → HearsNext bytes left' (Err stop) → ServesMessage hash core core server sent sent' bytes left' (Err stop)
+    by : (stop : Halt) → HearsNext bytes left' (Err stop) → ServesMessage hash Kept core core server sent sent' bytes left' (Err stop)
     by halt.LinkFault hears = record {
       heard = [];
       taken = hears.0;
@@ -130,33 +158,33 @@ unread hash core server sent sent' bytes left' stop (Err e) handed same hears se
       broken = none_heard hash (program_served core) (own_digest core) (turns_of core) server bytes;
       serves = serves;
     }
-    by halt.NoMemory hears = record {
+    by halt.Stopped hears = record {
       taken = hears.0;
       takes = hears.1;
       out = [];
       behind = server;
       sends = same ∙ sym (append_none sent);
-      served = ([], none_heard hash (program_served core) (own_digest core) (turns_of core) server bytes, inl refl);
+      served = ([], none_heard hash (program_served core) (own_digest core) (turns_of core) server bytes, inl refl, kept);
       serves = serves;
     }
 
--- What is left of the core is a server with a history, unless memory was wanting.
-module _ (hash : Hash) {A G : Type 0} (old new : ServeCore A G) (same : HasSameCode old new) (h : HasServed hash old) (sent sent' : Option (List ℕ)) (m : meant.Heard) (is : IsHeard m) where
-  pub stays_open : (closing : Bool) → Answers hash old new h.server sent sent' m (Ok closing) → HasServed hash new
+-- What is left of the core is a server with a history, unless it was stopped.
+module _ (hash : Hash) (Kept : (told made : List RoleCall) → Type 0) {A G : Type 0} (old new : ServeCore A G) (same : HasSameCode old new) (h : HasServed hash old) (sent sent' : Option (List ℕ)) (m : meant.Heard) (is : IsHeard m) where
+  pub stays_open : (closing : Bool) → Answers hash Kept old new h.server sent sent' m (Ok closing) → HasServed hash new
   stays_open closing answers = served_more hash old new same h.server m h.history is answers.2
 
-  pub stays_halted : {T : Type 0} (stop : Halt) (result : Result T Halt) → IsErrAnd result (λ e. e ≡ stop) → Answers hash old new h.server sent sent' m (Err stop)
+  pub stays_halted : {T : Type 0} (stop : Halt) (result : Result T Halt) → IsErrAnd result (λ e. e ≡ stop) → Answers hash Kept old new h.server sent sent' m (Err stop)
       → StaysServing hash new result
   stays_halted stop (Ok on) handed answers = absurd handed
   stays_halted {T = T} stop (Err e) handed answers =
       let P : Halt → Type 0 = λ e. StaysServing {T = T} hash new (Err e) in subst P (sym handed) (by stop answers)
     where
-      by : (stop : Halt) → Answers hash old new h.server sent sent' m (Err stop) → StaysServing {T = T} hash new (Err stop)
+      by : (stop : Halt) → Answers hash Kept old new h.server sent sent' m (Err stop) → StaysServing {T = T} hash new (Err stop)
       by halt.LinkFault part = served_more hash old new same h.server m h.history is part.3
-      by halt.NoMemory (inl part) = ((step_of hash old h.server m).server, part.3)
-      by halt.NoMemory (inr stopped) = (stopped.1.0, stopped.1.2)
+      by halt.Stopped (inl all) = ((step_of hash old h.server m).server, all.0.3)
+      by halt.Stopped (inr stopped) = (stopped.1.0, stopped.1.2)
 
-  pub counts : (closing b on : Bool) → on ≡ b && not closing → asks m ≡ b → Answers hash old new h.server sent sent' m (Ok closing) → CountsMessage old.heard new.heard (Ok on)
+  pub counts : (closing b on : Bool) → on ≡ b && not closing → asks m ≡ b → Answers hash Kept old new h.server sent sent' m (Ok closing) → CountsMessage old.heard new.heard (Ok on)
   counts closing b on test asked answers =
       let OfOn : Bool → Type 0 = λ on. CountsMessage old.heard new.heard (Ok on) in subst OfOn (ap (λ b. b && not closing) asked ∙ sym test) (by m closing answers.1 answers.2)
     where

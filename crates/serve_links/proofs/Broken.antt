@@ -4,14 +4,15 @@ use Rattle.std.proofs.Math.Seq.{take-append-add}
 use Rattle.std.proofs.lemmas.List.{take_all}
 use Rattle.core_terms.specs.Formats.{Hash}
 use Rattle.core_terms.specs.Terms.{Program}
+use Rattle.session_meaning.specs.Calls.{RoleCall}
 use Rattle.session_meaning.specs.Connections.{heard_stop, served, if_closing, Served}
 use Rattle.session_meaning.specs.Messages.{Request, Reply, reply_bytes, Stop, NoMore, Then, request_of, messages}
 use Rattle.session_meaning.specs.Server.{Server, Heard, Hears, HearsBad, HearsEnd, Step, handle, replies_of}
 use Rattle.session_meaning.specs.Stopped.{IsStopped}
 use Rattle.link_ends.specs.MoreLinks.{but_last}
 use Rattle.link_ends.specs.declared.end.ConnectionEnd.{ConnectionEnd}
-use Rattle.link_ends.specs.declared.end.ConnectionEnd.TheVariants.{Over, LinkFault, NoMemory}
-use Rattle.serve_links.specs.Connections.{bytes_of, heard_in, heard_on, replied, GoOn, IsBrokenOff, IsCutAt, IsSentPart, IsServed, LeavesNoMemory}
+use Rattle.link_ends.specs.declared.end.ConnectionEnd.TheVariants.{Over, LinkFault, Stopped}
+use Rattle.serve_links.specs.Connections.{bytes_of, heard_in, heard_on, replied, GoOn, IsBrokenOff, IsCutAt, IsSentPart, IsServed, LeavesStopped}
 use Rattle.serve_links.specs.Messages.{ComesNext, IsReadAs}
 
 pub bytes_more : (a b : List Reply) → bytes_of (a ++ b) ≡ bytes_of a ++ bytes_of b
@@ -92,13 +93,13 @@ module _ (hash : Hash) (P : Program) (own : List ℕ) (ending : ℕ → ℕ) whe
       by (inl is) = inl (ap heard_on (came more) ∙ ap (λ l. Hears r ∷ l) is)
       by (inr is) = inr (ap heard_on (came more) ∙ ap (λ l. Hears r ∷ l) is)
 
-  no_memory_more : (server : Server) (bytes rest : List ℕ) (r : Request) (ms : List Heard) (out : List ℕ) (behind : Server)
+  stopped_more : (server : Server) (bytes rest : List ℕ) (r : Request) (ms : List Heard) (out : List ℕ) (behind : Server)
       → messages request_of bytes ≡ Then r (messages request_of rest) → (step server (Hears r)).closing ≡ false
-      → LeavesNoMemory hash P own ending (step server (Hears r)).server rest ms out behind
-      → LeavesNoMemory hash P own ending server bytes (Hears r ∷ ms) (said server (Hears r) ++ out) behind
-  no_memory_more server bytes rest r ms out behind came stays (inl is) = inl is
-  no_memory_more server bytes rest r ms out behind came stays (inr (inl is)) = inr (inl is)
-  no_memory_more server bytes rest r ms out behind came stays (inr (inr without)) = inr (inr (record {
+      → LeavesStopped hash P own ending (step server (Hears r)).server rest ms out behind
+      → LeavesStopped hash P own ending server bytes (Hears r ∷ ms) (said server (Hears r) ++ out) behind
+  stopped_more server bytes rest r ms out behind came stays (inl is) = inl is
+  stopped_more server bytes rest r ms out behind came stays (inr (inl is)) = inr (inl is)
+  stopped_more server bytes rest r ms out behind came stays (inr (inr without)) = inr (inr (record {
     next = without.next;
     others = without.others;
     came = heard_more bytes rest r came ∙ ap (λ l. Hears r ∷ l) without.came;
@@ -118,22 +119,22 @@ module _ (hash : Hash) (P : Program) (own : List ℕ) (ending : ℕ → ℕ) whe
       ap (served hash P own ending server) came
       ∙ ap (λ b. if_closing hash P own ending b s.replies s.server (λ server. served hash P own ending server (messages request_of rest))) stays
 
-  pub goes_on : (server : Server) (bytes taken rest : List ℕ) (r : Request) → bytes ≡ taken ++ rest → IsReadAs taken r
+  pub goes_on : (Kept : (told made : List RoleCall) → Type 0) (server : Server) (bytes taken rest : List ℕ) (r : Request) → bytes ≡ taken ++ rest → IsReadAs taken r
       → (step server (Hears r)).closing ≡ false → (more out : List ℕ) (end : ConnectionEnd) (behind : Server)
-      → IsServed hash P own ending (step server (Hears r)).server rest more out end behind
-      → IsServed hash P own ending server bytes (taken ++ more) (said server (Hears r) ++ out) end behind
-  goes_on server bytes taken rest r parts read stays more out Over behind is =
+      → IsServed hash P own ending Kept (step server (Hears r)).server rest more out end behind
+      → IsServed hash P own ending Kept server bytes (taken ++ more) (said server (Hears r) ++ out) end behind
+  goes_on Kept server bytes taken rest r parts read stays more out Over behind is =
       let came = first_request bytes taken rest r parts read in
       let all = served_more server bytes rest r came stays in
       let others = served hash P own ending (step server (Hears r)).server (messages request_of rest) in (
         ap (λ o. said server (Hears r) ++ o) is.0 ∙ sym (ap (λ (s : Served). bytes_of s.replies) all ∙ bytes_more (step server (Hears r)).replies others.replies),
         is.1 ∙ sym (ap (λ (s : Served). s.server) all),
       )
-  goes_on server bytes taken rest r parts read stays more out LinkFault behind is =
+  goes_on Kept server bytes taken rest r parts read stays more out LinkFault behind is =
       (Hears r ∷ is.0, cut_more server taken more r is.0 out read stays is.1, is.2)
-  goes_on server bytes taken rest r parts read stays more out NoMemory behind is =
+  goes_on Kept server bytes taken rest r parts read stays more out Stopped behind is =
       let came = first_request bytes taken rest r parts read in
-      (Hears r ∷ is.0, broken_more server bytes rest r is.0 out came stays is.1, no_memory_more server bytes rest r is.0 out behind came stays is.2)
+      (Hears r ∷ is.0, broken_more server bytes rest r is.0 out came stays is.1, stopped_more server bytes rest r is.0 out behind came stays is.2, is.3)
 
   -- nothing was heard yet
   pub none_heard : (server : Server) (bytes : List ℕ) → IsBrokenOff hash P own ending server bytes [] []
@@ -170,30 +171,30 @@ module _ (hash : Hash) (P : Program) (own : List ℕ) (ending : ℕ → ℕ) whe
       let whole = replied_one server m in
       record { came = heard_first_taken bytes left' m next; go_on = tt; part = (n, omega arith, rw whole within, sym (ap (take n) whole)) }
 
-  -- memory was wanting to handle it
-  pub first_stopped : (server : Server) (bytes taken : List ℕ) (left' : Option (List ℕ)) (m : Heard) (behind : Server) → ComesNext bytes left' m
-      → IsStopped hash P ending server m behind → IsServed hash P own ending server bytes taken [] NoMemory behind
-  first_stopped server bytes taken left' m behind next stopped =
+  -- the server was stopped at it
+  pub first_stopped : (Kept : (told made : List RoleCall) → Type 0) (server : Server) (bytes taken : List ℕ) (left' : Option (List ℕ)) (m : Heard) (behind : Server) → ComesNext bytes left' m
+      → IsStopped hash P ending server m behind → Kept server.shared.commits behind.shared.commits → IsServed hash P own ending Kept server bytes taken [] Stopped behind
+  first_stopped Kept server bytes taken left' m behind next stopped kept =
       let first = heard_first bytes left' m next in
-      ([], none_heard server bytes, inr (inr (record { next = m; others = first.0; came = first.1; go_on = tt; whole = refl; stopped = stopped })))
+      ([], none_heard server bytes, inr (inr (record { next = m; others = first.0; came = first.1; go_on = tt; whole = refl; stopped = stopped })), kept)
 
-  over_stop : (server : Server) (bytes taken : List ℕ) (m : Heard) (stop : Stop) → messages request_of bytes ≡ NoMore stop → heard_stop stop ≡ m
-      → IsServed hash P own ending server bytes taken (said server m) Over (step server m).server
-  over_stop server bytes taken m stop came is = (
+  over_stop : (Kept : (told made : List RoleCall) → Type 0) (server : Server) (bytes taken : List ℕ) (m : Heard) (stop : Stop) → messages request_of bytes ≡ NoMore stop → heard_stop stop ≡ m
+      → IsServed hash P own ending Kept server bytes taken (said server m) Over (step server m).server
+  over_stop Kept server bytes taken m stop came is = (
     sym (ap (λ ms. bytes_of (served hash P own ending server ms).replies) came ∙ ap (λ m. bytes_of (step server m).replies) is),
     sym (ap (λ ms. (served hash P own ending server ms).server) came ∙ ap (λ m. (step server m).server) is),
   )
 
   -- the connection is over behind it
-  pub over_at : (server : Server) (bytes : List ℕ) (left' : Option (List ℕ)) (m : Heard) → (next : ComesNext bytes left' m)
+  pub over_at : (Kept : (told made : List RoleCall) → Type 0) (server : Server) (bytes : List ℕ) (left' : Option (List ℕ)) (m : Heard) → (next : ComesNext bytes left' m)
       → ((r : Request) → m ≡ Hears r → (step server m).closing ≡ true)
-      → IsServed hash P own ending server bytes next.0 (said server m) Over (step server m).server
-  over_at server bytes left' (Hears r) next closes =
+      → IsServed hash P own ending Kept server bytes next.0 (said server m) Over (step server m).server
+  over_at Kept server bytes left' (Hears r) next closes =
       let s = step server (Hears r) in
       let rest = next.1.0 in
       let all : served hash P own ending server (messages request_of bytes) ≡ record { server = s.server; replies = s.replies } =
       ap (served hash P own ending server) (first_request bytes next.0 rest r next.1.1 next.2)
       ∙ ap (λ b. if_closing hash P own ending b s.replies s.server (λ server. served hash P own ending server (messages request_of rest))) (closes r refl) in
       (sym (ap (λ (s : Served). bytes_of s.replies) all), sym (ap (λ (s : Served). s.server) all))
-  over_at server bytes left' HearsBad next closes = over_stop server bytes next.0 HearsBad next.2.0 next.2.1 next.2.3
-  over_at server bytes left' HearsEnd next closes = over_stop server bytes next.0 HearsEnd next.2.0 next.2.1 next.2.3
+  over_at Kept server bytes left' HearsBad next closes = over_stop Kept server bytes next.0 HearsBad next.2.0 next.2.1 next.2.3
+  over_at Kept server bytes left' HearsEnd next closes = over_stop Kept server bytes next.0 HearsEnd next.2.0 next.2.1 next.2.3

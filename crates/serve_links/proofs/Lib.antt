@@ -2,6 +2,11 @@
 mod SentReplies
 -- a core that goes on: answer, serve_message, end_at_fault
 mod Serving
+-- commits that are kept: answer, serve_message, serve_link
+mod Growing
+mod KeptCommits
+mod Keepable
+mod KeptBehind
 -- a message of a connection: next_heard, serve_message
 mod Broken
 mod Stopping

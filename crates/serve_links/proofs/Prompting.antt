@@ -1,13 +1,11 @@
 -- Replies that are sent before more is waited for: for next_heard and serve_link.
-use Rattle.std.proofs.Common.{◌≡◌, ◌∙◌, ℕ, true, false, List, [], ◌∷◌, ◌++◌, take, drop, Option, Some, inl, inr, refl, sym, ap, subst, append_assoc, append-nil}
+use Rattle.std.proofs.Common.{◌≡◌, ◌∙◌, ℕ, false, List, [], ◌∷◌, ◌++◌, take, Option, inl, inr, refl, sym, ap, append_assoc, append-nil}
 use Rattle.std.specs.Io.KnownBytes.{append_known}
-use Rattle.std.proofs.lemmas.List.{take-append-drop}
 use Rattle.core_terms.specs.Formats.{Hash}
 use Rattle.core_terms.specs.Terms.{Program}
 use Rattle.lam_outside.specs.Moments.{AtEachRead, Moment}
 use Rattle.lam_outside.proofs.Waiting.{reads_weaken}
-use Rattle.session_meaning.specs.Connections.{bytes_sent, heard_stop, if_closing, served}
-use Rattle.session_meaning.specs.Messages as meant
+use Rattle.session_meaning.specs.Connections.{bytes_sent, if_closing, served}
 use Rattle.session_meaning.specs.Messages.{Request, Messages, NoMore, Then, AtEnd, IsCut, TooLong, BadMessage, messages, read_request, request_of}
 use Rattle.session_meaning.specs.Server.{Server, Hears, HearsBad, HearsEnd, handle}
 use Rattle.session_meaning.proofs.WholeMessages.{requests_stop}

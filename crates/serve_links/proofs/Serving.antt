@@ -7,12 +7,14 @@ use Rattle.core_terms.proofs.CodePrograms.{is_format, is_typed}
 use Rattle.code_gen.specs.declared.code.Code.{Code}
 use Rattle.code_gen.specs.Programs.{program_in}
 use Rattle.mode_vm.specs.Meanings.{program_of}
+use Rattle.session_meaning.specs.Begun.{IsBegun}
 use Rattle.session_meaning.specs.Messages.{Hello, Call, Go, Bye, IsReply, Request}
 use Rattle.session_meaning.specs.Causes.{Refusal}
 use Rattle.session_meaning.specs.Tables.{find}
 use Rattle.session_meaning.specs.ReplyLaws.{IsHeard}
 use Rattle.session_meaning.specs.Server as meant
-use Rattle.session_meaning.specs.Server.{Server, Session, Admitted, Heard, Hears, HearsBad, HearsEnd, handle, server_after, new_server, last_turn, messages_limit}
+use Rattle.session_meaning.specs.Server.{Server, Session, Admitted, Heard, Hears, HearsBad, HearsEnd, begun_server, handle, server_after, last_turn, messages_limit}
+use Rattle.session_meaning.proofs.Begins.{servers_may_begin}
 use Rattle.session_meaning.proofs.RepliesFit.{replies_are_messages}
 use Rattle.serve_core.specs.Serving.{Serves}
 use Rattle.serve_core.specs.declared.server.ServeCore.{ServeCore}
@@ -31,13 +33,11 @@ module _ (hash : Hash) (P : Program) (own : List ℕ) (ending : ℕ → ℕ) whe
   -- a server with a history has one behind a message too
   pub history_more : (server : Server) (m : Heard) → HasHistory hash P own ending server → IsHeard m → HasHistory hash P own ending (handle hash P own ending server m).server
   history_more server m h is = record {
-    first = h.first;
+    begun = h.begun;
     before = h.before ++ m ∷ [];
-    ideal = h.ideal;
-    fits = h.fits;
-    deep = h.deep;
+    begins = h.begins;
     messages = heard_more h.before m h.messages is;
-    is = ap (λ s. (handle hash P own ending s m).server) h.is ∙ sym (after_more h.before m (new_server h.first));
+    is = ap (λ s. (handle hash P own ending s m).server) h.is ∙ sym (after_more h.before m (begun_server h.begun));
   }
 
   request_counts : (server : Server) (r : Request) → (meant.request_step hash P own ending server r).server.heard ≡ server.heard
@@ -77,7 +77,15 @@ replies_fit hash is_hash code own ending server m h is =
     let p = program_in code in
     let Fit : Server → Type 0 = λ s. AllByRecursion IsReply (handle hash (program_of code) own ending s m).replies in
     subst Fit (sym h.is)
-    (replies_are_messages hash is_hash (program_of code) (is_format p) (is_typed p) p.shaped own ending h.first h.ideal h.fits h.deep h.before h.messages m is)
+    (replies_are_messages hash is_hash (program_of code) (is_format p) (is_typed p) p.shaped own ending h.begun h.begins.within h.before h.messages m is)
+
+-- with what it has one may begin
+pub begun_now : (hash : Hash) → IsHash hash → (code : Code) (own : List ℕ) (ending : ℕ → ℕ) (server : Server)
+    → HasHistory hash (program_of code) own ending server → IsBegun (program_of code) server.shared
+begun_now hash is_hash code own ending server h =
+    let p = program_in code in
+    subst (λ (s : Server). IsBegun (program_of code) s.shared) (sym h.is)
+    (servers_may_begin hash is_hash (program_of code) (is_format p) (is_typed p) p.shaped own ending h.begun h.begins h.before h.messages)
 
 module _ (hash : Hash) {A G : Type 0} where
   -- a core of the same code serves a server with a history

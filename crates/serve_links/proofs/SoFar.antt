@@ -1,17 +1,17 @@
 -- A connection that goes on, message by message: for serve_link.
-use Rattle.std.proofs.Common.{inl, inr, ◌≡◌, ℕ, Bool, List, [], ◌++◌, Option, Some, None, Result, Err, refl, sym, ap, subst, subst₂, ◌∙◌, append_assoc}
-use Rattle.std.specs.Io.KnownBytes.{append_known, prepend_known}
+use Rattle.std.proofs.Common.{inl, inr, ◌≡◌, ℕ, Bool, List, [], ◌++◌, Option, Some, Result, Err, refl, sym, ap, subst, subst₂, ◌∙◌, append_assoc}
+use Rattle.std.specs.Io.KnownBytes.{append_known}
 use Rattle.lam_outside.proofs.Moved.{append_none, append_twice}
 use Rattle.core_terms.specs.Formats.{Hash}
 use Rattle.code_gen.specs.declared.code.Code.{Code}
 use Rattle.code_gen.specs.Programs.{program_in}
 use Rattle.mode_vm.specs.Meanings.{program_of}
-use Rattle.session_meaning.specs.Server.{Server, Hears, HearsEnd, last_turn}
-use Rattle.wire_form.specs.MovedBytes.{Moves}
+use Rattle.session_meaning.specs.Calls.{RoleCall}
+use Rattle.session_meaning.specs.Server.{Server, Hears, HearsEnd, last_turn, server_after}
 use Rattle.serve_core.specs.Serving.{Serves}
 use Rattle.serve_core.specs.declared.server.ServeCore.{ServeCore}
 use Rattle.link_ends.specs.declared.end.ConnectionEnd.{ConnectionEnd}
-use Rattle.link_ends.specs.declared.end.ConnectionEnd.TheVariants.{Over, LinkFault, NoMemory}
+use Rattle.link_ends.specs.declared.end.ConnectionEnd.TheVariants.{Over, LinkFault, Stopped}
 use Rattle.link_ends.specs.declared.halt.Halt.{Halt}
 use Rattle.link_ends.specs.declared.halt.Halt.TheVariants as halt
 use Rattle.serve_links.specs.Connections.{IsServed, bytes_of, left_by_end}
@@ -26,10 +26,10 @@ use Rattle.session_meaning.specs.Connections.{bytes_sent}
 use Rattle.serve_links.specs.Prompt.{IsPrompt, WaitsForOne}
 use Rattle.serve_links.proofs.Serving.{served_more}
 
-module _ (hash : Hash) where
+module _ (hash : Hash) (Kept : (told made : List RoleCall) → Type 0) where
   -- what a server of this code and these turns sends, and leaves
   abbrev IsServedBy : Code → ℕ → Server → (bytes taken sent : List ℕ) → ConnectionEnd → (behind : Server) → Type 0
-  IsServedBy code slice = IsServed hash (program_of code) (program_in code).text_digest.0 (last_turn slice)
+  IsServedBy code slice = IsServed hash (program_of code) (program_in code).text_digest.0 (last_turn slice) Kept
 
 -- To these bytes is replied this, and then what another server replies to others.
 abbrev IsRepliedBy : Hash → Code → ℕ → Server → (bytes out : List ℕ) → Server → List ℕ → Type 0
@@ -38,6 +38,20 @@ IsRepliedBy hash code slice server bytes out next further =
     ≡ out ++ bytes_sent hash (program_of code) (program_in code).text_digest.0 (last_turn slice) next further
 
 module _ (hash : Hash) {A G : Type 0} where
+  -- a core that heard an end at a fault
+  pub stays_at_end : (old new : ServeCore A G) → HasSameCode old new → HasServed hash old
+      → ((server : Server) → Serves hash old server → Serves hash new (step_of hash old server HearsEnd).server) → (end : ConnectionEnd) → StaysServer hash new end
+  stays_at_end old new same h ended Over = served_more hash old new same h.server HearsEnd h.history tt (ended h.server h.serves)
+  stays_at_end old new same h ended LinkFault = served_more hash old new same h.server HearsEnd h.history tt (ended h.server h.serves)
+  stays_at_end old new same h ended Stopped = ((step_of hash old h.server HearsEnd).server, ended h.server h.serves)
+
+  pub stays_halted_fault : (core : ServeCore A G) (stop : Halt) → stop ≡ halt.LinkFault → StaysServing {T = Bool} hash core (Err stop) → HasServed hash core
+  stays_halted_fault core stop is stays = let Of : Halt → Type 0 = λ stop. StaysServing {T = Bool} hash core (Err stop) in subst Of is stays
+
+  pub code_more : (old now new : ServeCore A G) → HasSameCode old now → HasSameCode now new → HasSameCode old new
+  code_more old now new first more = record { code = more.code ∙ first.code; slice = more.slice ∙ first.slice }
+
+module _ (hash : Hash) (Kept : (told made : List RoleCall) → Type 0) {A G : Type 0} where
   -- A core served this server as the bytes began to come, and serves one now that goes on with those that are left: whatever that
   -- one sends then was sent on the whole connection, behind what was sent by now.
   pub record IsSoFar (old now : ServeCore A G) (server : Server) (sent sent' : Option (List ℕ)) (bytes : List ℕ) (left' : Option (List ℕ)) : Type 0 where
@@ -50,27 +64,14 @@ module _ (hash : Hash) {A G : Type 0} where
     pub told : left' ≡ Some rest
     pub serves : Serves hash now current
     pub replied : (further : List ℕ) → IsRepliedBy hash old.code old.slice server (taken ++ further) out current further
-    pub behind : (further more : List ℕ) (end : ConnectionEnd) (last : Server) → IsServedBy hash old.code old.slice current rest further more end last
-        → IsServedBy hash old.code old.slice server bytes (taken ++ further) (out ++ more) end last
+    pub behind : (further more : List ℕ) (end : ConnectionEnd) (last : Server) → IsServedBy hash Kept old.code old.slice current rest further more end last
+        → IsServedBy hash Kept old.code old.slice server bytes (taken ++ further) (out ++ more) end last
 
   -- what a message's result says, where it is known
   pub served_at : (old new : ServeCore A G) (server : Server) (sent sent' : Option (List ℕ)) (bytes : List ℕ) (left' : Option (List ℕ)) (r known : Result Bool Halt) → r ≡ known
-      → ServesMessage hash old new server sent sent' bytes left' r → ServesMessage hash old new server sent sent' bytes left' known
+      → ServesMessage hash Kept old new server sent sent' bytes left' r → ServesMessage hash Kept old new server sent sent' bytes left' known
   served_at old new server sent sent' bytes left' r known is served =
-      let Of : Result Bool Halt → Type 0 = λ r. ServesMessage hash old new server sent sent' bytes left' r in subst Of is served
-
-  -- a core that heard an end at a fault
-  pub stays_at_end : (old new : ServeCore A G) → HasSameCode old new → HasServed hash old
-      → ((server : Server) → Serves hash old server → Serves hash new (step_of hash old server HearsEnd).server) → (end : ConnectionEnd) → StaysServer hash new end
-  stays_at_end old new same h ended Over = served_more hash old new same h.server HearsEnd h.history tt (ended h.server h.serves)
-  stays_at_end old new same h ended LinkFault = served_more hash old new same h.server HearsEnd h.history tt (ended h.server h.serves)
-  stays_at_end old new same h ended NoMemory = ((step_of hash old h.server HearsEnd).server, ended h.server h.serves)
-
-  pub stays_halted_fault : (core : ServeCore A G) (stop : Halt) → stop ≡ halt.LinkFault → StaysServing {T = Bool} hash core (Err stop) → HasServed hash core
-  stays_halted_fault core stop is stays = let Of : Halt → Type 0 = λ stop. StaysServing {T = Bool} hash core (Err stop) in subst Of is stays
-
-  pub code_more : (old now new : ServeCore A G) → HasSameCode old now → HasSameCode now new → HasSameCode old new
-  code_more old now new first more = record { code = more.code ∙ first.code; slice = more.slice ∙ first.slice }
+      let Of : Result Bool Halt → Type 0 = λ r. ServesMessage hash Kept old new server sent sent' bytes left' r in subst Of is served
 
   pub at_first : (core : ServeCore A G) (server : Server) (sent : Option (List ℕ)) (bytes : List ℕ) (left : Option (List ℕ)) → left ≡ Some bytes → Serves hash core server
       → IsSoFar core core server sent sent bytes left
@@ -100,9 +101,9 @@ module _ (hash : Hash) {A G : Type 0} where
       sent_behind more sends = sends ∙ ap (λ w. append_known w more) so_far.sends ∙ append_twice sent so_far.out more
 
       -- one message more
-      pub one_more : (new : ServeCore A G) (left'' : Option (List ℕ)) → GoesOn hash now new so_far.current sent' sent'' so_far.rest left''
+      pub one_more : (Also : (told made : List RoleCall) → Type 0) (new : ServeCore A G) (left'' : Option (List ℕ)) → GoesOn hash Also now new so_far.current sent' sent'' so_far.rest left''
           → IsSoFar old new server sent sent'' bytes left''
-      one_more new left'' on = record {
+      one_more Also new left'' on = record {
         out = so_far.out ++ bytes_of (step_of hash now so_far.current (Hears on.request)).replies;
         taken = so_far.taken ++ on.taken;
         rest = on.rest;
@@ -123,14 +124,14 @@ module _ (hash : Hash) {A G : Type 0} where
         behind = λ further more end last served.
             let said = bytes_of (step_of hash now so_far.current (Hears on.request)).replies in
             let next = (step_of hash now so_far.current (Hears on.request)).server in
-            let there : IsServedBy hash now.code now.slice next on.rest further more end last =
-            of_now (λ code slice. IsServedBy hash code slice next on.rest further more end last) served in
-            let one : IsServedBy hash now.code now.slice so_far.current so_far.rest (on.taken ++ further) (said ++ more) end last =
-            goes_on hash (program_served now) (own_digest now) (turns_of now) so_far.current so_far.rest on.taken on.rest on.request on.all on.came on.stays_open further more end last there in
-            let Whole : List ℕ → List ℕ → Type 0 = λ taken sent. IsServedBy hash old.code old.slice server bytes taken sent end last in
+            let there : IsServedBy hash Kept now.code now.slice next on.rest further more end last =
+            of_now (λ code slice. IsServedBy hash Kept code slice next on.rest further more end last) served in
+            let one : IsServedBy hash Kept now.code now.slice so_far.current so_far.rest (on.taken ++ further) (said ++ more) end last =
+            goes_on hash (program_served now) (own_digest now) (turns_of now) Kept so_far.current so_far.rest on.taken on.rest on.request on.all on.came on.stays_open further more end last there in
+            let Whole : List ℕ → List ℕ → Type 0 = λ taken sent. IsServedBy hash Kept old.code old.slice server bytes taken sent end last in
             subst₂ Whole (sym (append_assoc so_far.taken on.taken further)) (sym (append_assoc so_far.out said more))
             (so_far.behind (on.taken ++ further) (said ++ more) end last
-            (of_code (λ code slice. IsServedBy hash code slice so_far.current so_far.rest (on.taken ++ further) (said ++ more) end last) one));
+            (of_code (λ code slice. IsServedBy hash Kept code slice so_far.current so_far.rest (on.taken ++ further) (said ++ more) end last) one));
       }
         where
           of_now : (P : Code → ℕ → Type 0) → P old.code old.slice → P now.code now.slice
@@ -151,8 +152,8 @@ module _ (hash : Hash) {A G : Type 0} where
           reads' reads'' waits)
 
       -- the connection ends at the next message
-      pub ends_now : (new : ServeCore A G) (left'' : Option (List ℕ)) (end : ConnectionEnd) → Ends hash now new so_far.current sent' sent'' so_far.rest left'' end
-          → Ends hash old new server sent sent'' bytes left'' end
+      pub ends_now : (new : ServeCore A G) (left'' : Option (List ℕ)) (end : ConnectionEnd) → Ends hash Kept now new so_far.current sent' sent'' so_far.rest left'' end
+          → Ends hash Kept old new server sent sent'' bytes left'' end
       ends_now new left'' end ended = record {
         taken = so_far.taken ++ ended.taken;
         out = so_far.out ++ ended.out;
@@ -164,16 +165,17 @@ module _ (hash : Hash) {A G : Type 0} where
         );
         sends = sent_behind ended.out ended.sends;
         served = so_far.behind ended.taken ended.out end ended.behind
-            (of_code (λ code slice. IsServedBy hash code slice so_far.current so_far.rest ended.taken ended.out end ended.behind) ended.served);
+            (of_code (λ code slice. IsServedBy hash Kept code slice so_far.current so_far.rest ended.taken ended.out end ended.behind) ended.served);
         serves = ended.serves;
       }
 
       -- it broke off, and the server heard the end
       pub breaks_now : (broken ended : ServeCore A G) (left'' : Option (List ℕ)) (end : ConnectionEnd) → IsBroken end
-          → (off : BreaksOff hash now broken so_far.current sent' sent'' so_far.rest left'')
+          → (off : BreaksOff hash Kept now broken so_far.current sent' sent'' so_far.rest left'')
           → Serves hash ended (left_by_end hash (program_served now) (own_digest now) (turns_of now) so_far.current off.heard)
-          → Ends hash old ended server sent sent'' bytes left'' end
-      breaks_now broken ended left'' end is off serves = ends_now ended left'' end (record {
+          → (let told = (server_after hash (program_served now) (own_digest now) (turns_of now) so_far.current off.heard).shared.commits in Kept told told)
+          → Ends hash Kept old ended server sent sent'' bytes left'' end
+      breaks_now broken ended left'' end is off serves kept = ends_now ended left'' end (record {
         taken = off.taken;
         takes = off.takes;
         out = off.out;
@@ -184,7 +186,7 @@ module _ (hash : Hash) {A G : Type 0} where
       })
         where
           by : (end : ConnectionEnd) → IsBroken end
-              → IsServedBy hash now.code now.slice so_far.current so_far.rest off.taken off.out end (left_by_end hash (program_served now) (own_digest now) (turns_of now) so_far.current off.heard)
+              → IsServedBy hash Kept now.code now.slice so_far.current so_far.rest off.taken off.out end (left_by_end hash (program_served now) (own_digest now) (turns_of now) so_far.current off.heard)
           by Over is = absurd is
           by LinkFault is = (off.heard, off.cut, refl)
-          by NoMemory is = (off.heard, off.broken, inr (inl refl))
+          by Stopped is = (off.heard, off.broken, inr (inl refl), kept)

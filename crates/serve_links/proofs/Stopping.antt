@@ -1,6 +1,6 @@
 -- What is heard of the bytes that a read takes: for next_heard.
 use Rattle.std.proofs.Common.{inl, inr, ◌≡◌, ℕ, ◌+◌, List, [], ◌∷◌, take, drop, Option, Some, Err, refl, sym, ap, subst, ◌∙◌, append-nil}
-use Rattle.std.proofs.lemmas.List.{drop-drop, take-append-drop}
+use Rattle.std.proofs.lemmas.List.{drop-drop}
 use Rattle.session_meaning.specs.Messages as meant
 use Rattle.session_meaning.specs.Messages.{Request as TheRequest, Got, NoMore, Stops, left_by, messages, read_request, request_of}
 use Rattle.session_meaning.specs.Server.{Hears, HearsBad, HearsEnd}

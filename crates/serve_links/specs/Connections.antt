@@ -3,13 +3,14 @@ use Rattle.std.specs.Prelude.{◌≡◌, ◌⊎◌, ℕ, ◌≤◌, false, List,
 use Rattle.std.specs.List.{flat_map}
 use Rattle.core_terms.specs.Formats.{Hash}
 use Rattle.core_terms.specs.Terms.{Program}
+use Rattle.session_meaning.specs.Calls.{RoleCall}
 use Rattle.session_meaning.specs.Connections.{heard_stop, served, bytes_sent}
 use Rattle.session_meaning.specs.Messages.{Request, Reply, reply_bytes, Messages, NoMore, Then, request_of, messages}
 use Rattle.session_meaning.specs.Server.{Server, Heard, Hears, HearsEnd, handle, server_after, replies_of}
 use Rattle.session_meaning.specs.Stopped.{IsStopped}
 use Rattle.link_ends.specs.MoreLinks.{but_last}
 use Rattle.link_ends.specs.declared.end.ConnectionEnd.{ConnectionEnd}
-use Rattle.link_ends.specs.declared.end.ConnectionEnd.TheVariants.{Over, LinkFault, NoMemory}
+use Rattle.link_ends.specs.declared.end.ConnectionEnd.TheVariants.{Over, LinkFault, Stopped}
 
 -- what a server hears of messages: each request, and then what it hears of their end
 abbrev pub heard_on : Messages Request → List Heard
@@ -54,9 +55,9 @@ module _ (hash : Hash) (P : Program) (own : List ℕ) (ending : ℕ → ℕ) whe
     pub go_on : GoOn server heard
     pub part : IsSentPart server heard sent
 
-  -- Memory was wanting for the message behind those that were heard, to which all is replied. It was not behind one that closes
+  -- The server was stopped at the message behind those that were heard, to which all is replied. It was not behind one that closes
   -- the connection.
-  pub record IsWithoutMemory (server : Server) (bytes : List ℕ) (heard : List Heard) (sent : List ℕ) (behind : Server) : Type 0 where
+  pub record IsStoppedOn (server : Server) (bytes : List ℕ) (heard : List Heard) (sent : List ℕ) (behind : Server) : Type 0 where
     pub next : Heard
     pub others : List Heard
     pub came : heard_in bytes ≡ heard ++ next ∷ others
@@ -68,18 +69,26 @@ module _ (hash : Hash) (P : Program) (own : List ℕ) (ending : ℕ → ℕ) whe
   abbrev pub left_by_end : Server → List Heard → Server
   left_by_end server heard = (handle hash P own ending (server_after hash P own ending server heard) HearsEnd).server
 
-  -- Memory was wanting: to read, or for a reply to what was heard; or for the end that is heard at a link fault; or to handle the
-  -- next message.
-  abbrev pub LeavesNoMemory : Server → List ℕ → List Heard → List ℕ → Server → Type 0
-  LeavesNoMemory server bytes heard sent behind =
-      (behind ≡ server_after hash P own ending server heard) ⊎ (behind ≡ left_by_end server heard) ⊎ IsWithoutMemory server bytes heard sent behind
+  -- It was stopped: as it read, or at a reply to what was heard; or at the end that is heard at a link fault; or at the next message.
+  abbrev pub LeavesStopped : Server → List ℕ → List Heard → List ℕ → Server → Type 0
+  LeavesStopped server bytes heard sent behind =
+      (behind ≡ server_after hash P own ending server heard) ⊎ (behind ≡ left_by_end server heard) ⊎ IsStoppedOn server bytes heard sent behind
 
-  -- On a link on which these bytes come a server took a front of them and sent this, and the connection ended so, with a server
-  -- behind it. Where it is over, all was sent. A link fault ends it behind all messages of the bytes that were taken, of which the
-  -- last one's replies may be sent in part, and the server hears an end. Where memory was wanting, some of the messages were heard,
-  -- and the same was sent.
-  abbrev pub IsServed : Server → (bytes taken sent : List ℕ) → ConnectionEnd → (behind : Server) → Type 0
-  IsServed server bytes taken sent Over behind =
-      (sent ≡ bytes_sent hash P own ending server bytes) × (behind ≡ (served hash P own ending server (messages request_of bytes)).server)
-  IsServed server bytes taken sent LinkFault behind = (heard : List Heard) × IsCutAt server taken heard sent × (behind ≡ left_by_end server heard)
-  IsServed server bytes taken sent NoMemory behind = (heard : List Heard) × IsBrokenOff server bytes heard sent × LeavesNoMemory server bytes heard sent behind
+  -- `Kept told made` says how the commits are kept, where `told` are all that were made by messages to which something was sent, and `made` are all that
+  -- the server has.
+  module _ (Kept : (told made : List RoleCall) → Type 0) where
+    -- On a link on which these bytes come a server took a front of them and sent this, and the connection ended so, with a server
+    -- behind it. Where it is over, all was sent. A link fault ends it behind all messages of the bytes that were taken, of which the
+    -- last one's replies may be sent in part, and the server hears an end. Where it was stopped, some of the messages were heard, the same was sent,
+    -- and the commits are kept so.
+    abbrev pub IsServed : Server → (bytes taken sent : List ℕ) → ConnectionEnd → (behind : Server) → Type 0
+    IsServed server bytes taken sent Over behind =
+        (sent ≡ bytes_sent hash P own ending server bytes) × (behind ≡ (served hash P own ending server (messages request_of bytes)).server)
+    IsServed server bytes taken sent LinkFault behind = (heard : List Heard) × IsCutAt server taken heard sent × (behind ≡ left_by_end server heard)
+    IsServed server bytes taken sent Stopped behind =
+        (heard : List Heard) × IsBrokenOff server bytes heard sent × LeavesStopped server bytes heard sent behind
+        × Kept (server_after hash P own ending server heard).shared.commits behind.shared.commits
+
+-- no more is said of how commits are kept
+abbrev pub AnyKept : (told made : List RoleCall) → Type 0
+AnyKept told made = Unit {0}

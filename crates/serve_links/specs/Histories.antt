@@ -1,27 +1,23 @@
--- Servers that began with a first version within the limits, and heard requests that are messages.
+-- Servers that began as they may, and heard requests that are messages.
 use Rattle.std.specs.Prelude.{◌≡◌, ℕ, List}
 use Rattle.std.specs.List.{AllByRecursion}
 use Rattle.core_terms.specs.Formats.{Hash}
-use Rattle.core_terms.specs.Values.{Value, IsIdeal, AuthWithin}
 use Rattle.core_terms.specs.Terms.{Program}
-use Rattle.core_terms.specs.Projection.{Fits}
 use Rattle.code_gen.specs.Programs.{program_in}
 use Rattle.mode_vm.specs.Meanings.{program_of}
+use Rattle.session_meaning.specs.Begun.{IsBegun}
 use Rattle.session_meaning.specs.ReplyLaws.{IsHeard}
-use Rattle.session_meaning.specs.Server.{Server, Heard, Step, new_server, handle, server_after, last_turn}
+use Rattle.session_meaning.specs.Server.{Server, Shared, Heard, Step, begun_server, handle, server_after, last_turn}
 use Rattle.serve_core.specs.Serving.{Serves}
 use Rattle.serve_core.specs.declared.server.ServeCore.{ServeCore}
 
--- The server is the one behind these heard messages: it began with a first version within the limits, as is all that is
--- authenticated in it, and each request that it heard is a message.
+-- The server is the one behind these heard messages: it began with versions and commits as a server may, and each request that it heard is a message.
 pub record HasHistory (hash : Hash) (P : Program) (own : List ℕ) (ending : ℕ → ℕ) (server : Server) : Type 0 where
-  pub first : Value
+  pub begun : Shared
   pub before : List Heard
-  pub ideal : IsIdeal P.types P.state first
-  pub fits : Fits P P.state first
-  pub deep : AuthWithin P.format.limit P.types P.state first
+  pub begins : IsBegun P begun
   pub messages : AllByRecursion IsHeard before
-  pub is : server ≡ server_after hash P own ending (new_server first) before
+  pub is : server ≡ server_after hash P own ending (begun_server begun) before
 
 -- The program of a core, the digest of its text, and the turn in which a run of so many calls ends.
 abbrev pub program_served : {A G : Type 0} → ServeCore A G → Program

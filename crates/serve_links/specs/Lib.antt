@@ -2,6 +2,7 @@ pub mod Connections
 pub mod Ends
 pub mod Histories
 pub mod HeardRows
+pub mod KeeperRows
 pub mod LinkLaws
 pub mod LinkRows
 pub mod Messages

@@ -1,18 +1,14 @@
 -- Rows for what is said of served links: what each word takes, and what it refuses.
-use Rattle.std.specs.Prelude.{◌≡◌, ◌<◌, ◌≤◌, ◌+◌, ℕ, zero, suc, Bool, true, false, List, [], ◌∷◌, ◌++◌, map, Option, Some, Result, Ok, Err, refl}
+use Rattle.std.specs.Prelude.{◌≡◌, ◌+◌, ℕ, zero, suc, true, false, List, [], ◌∷◌, ◌++◌, map, Some, Ok, refl}
 use Rattle.std.proofs.Common.{arith, sym, ap, subst, ◌∙◌, append-nil}
 use Rattle.core_terms.specs.Values.{UnitV}
 use Rattle.ideal_meaning.specs.Examples.{toy, unit_program}
-use Rattle.lam_outside.specs.Causes.{Rose}
 use Rattle.session_meaning.specs.Connections.{bytes_sent}
 use Rattle.session_meaning.specs.Messages.{Request, Hello, Bye}
 use Rattle.session_meaning.specs.MessageRows.{hello_bytes, text_digest}
-use Rattle.session_meaning.specs.Server.{Server, Heard, Hears, HearsBad, HearsEnd, last_turn, new_server}
+use Rattle.session_meaning.specs.Server.{Server, Hears, HearsBad, HearsEnd, last_turn, new_server}
 use Rattle.link_ends.specs.MoreLinks.{but_last}
-use Rattle.link_ends.specs.declared.end.ConnectionEnd.TheVariants as connection
-use Rattle.link_ends.specs.declared.halt.Halt.TheVariants as halt
-use Rattle.link_ends.specs.declared.end.ServingEnd.TheVariants.{Served, NoMemory}
-use Rattle.serve_links.specs.Connections.{IsSentPart}
+use Rattle.serve_links.specs.Connections.{AnyKept, IsSentPart}
 use Rattle.serve_links.specs.Messages.{CountsMessage, asks}
 use Rattle.serve_links.specs.Prompt.{IsPrompt}
 use Rattle.serve_links.specs.ServedLinks.{AreServed}
@@ -29,8 +25,8 @@ not_none_sent (zero, least, most, is) = omega (arith, least)
 not_none_sent (suc n, least, most, is) = cc (is)
 
 -- no links were served by a server that stays, and without a fault
-pub none_served : (server : Server) → AreServed toy unit_program text_digest (last_turn 1) server [] false server
-    × (AreServed toy unit_program text_digest (last_turn 1) server [] true server → ⊥)
+pub none_served : (server : Server) → AreServed toy unit_program text_digest (last_turn 1) AnyKept server [] false server
+    × (AreServed toy unit_program text_digest (last_turn 1) AnyKept server [] true server → ⊥)
 none_served server = ((refl, refl), (λ s. let clash : true ≡ false = s.0 in cc))
 
 pub counted : (before now : ℕ) → CountsMessage before now (Ok true) → now ≡ before + 1

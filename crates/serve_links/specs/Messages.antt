@@ -2,17 +2,19 @@
 use Rattle.std.specs.Prelude.{◌≡◌, ◌⊎◌, ℕ, ◌+◌, ◌<◌, ◌≤◌, Bool, true, false, List, [], ◌∷◌, ◌++◌, length, take, Option, Some, Result, Ok, Err, ⊤}
 use Rattle.std.specs.Io.KnownBytes.{append_known}
 use Rattle.core_terms.specs.Formats.{Hash}
+use Rattle.session_meaning.specs.Calls.{RoleCall}
 use Rattle.session_meaning.specs.Connections.{heard_stop}
 use Rattle.session_meaning.specs.Messages.{Request, Stop, NoMore, Then, request_of, messages}
 use Rattle.session_meaning.specs.Server as meant
 use Rattle.session_meaning.specs.Server.{Server, server_after, messages_limit}
 use Rattle.session_meaning.specs.Stopped.{IsStopped}
+use Rattle.session_turns.specs.Keepers.{HasStayed, MayHaveFailed}
 use Rattle.serve_core.specs.Serving.{Serves, heard_meant}
 use Rattle.serve_core.specs.declared.server.ServeCore.{ServeCore}
 use Rattle.serve_core.specs.declared.heard.Heard.{Heard}
 use Rattle.link_ends.specs.MoreLinks.{Takes}
 use Rattle.link_ends.specs.declared.end.ConnectionEnd.{ConnectionEnd}
-use Rattle.link_ends.specs.declared.end.ConnectionEnd.TheVariants.{Over, NoMemory}
+use Rattle.link_ends.specs.declared.end.ConnectionEnd.TheVariants.{Over, Stopped}
 use Rattle.link_ends.specs.declared.halt.Halt.{Halt}
 use Rattle.link_ends.specs.declared.halt.Halt.TheVariants as halt
 use Rattle.serve_links.specs.Connections.{IsBrokenOff, IsCutAt, IsServed, bytes_of, heard_in}
@@ -42,32 +44,50 @@ ComesNext bytes left' m = (taken : List ℕ) × Takes bytes taken left' × IsHea
 abbrev pub HearsNext : List ℕ → Option (List ℕ) → Result Heard Halt → Type 0
 HearsNext bytes left' (Ok heard) = ComesNext bytes left' (heard_meant heard)
 HearsNext bytes left' (Err halt.LinkFault) = (taken : List ℕ) × Takes bytes taken left' × (heard_in taken ≡ meant.HearsEnd ∷ [])
-HearsNext bytes left' (Err halt.NoMemory) = (taken : List ℕ) × Takes bytes taken left'
+HearsNext bytes left' (Err halt.Stopped) = (taken : List ℕ) × Takes bytes taken left'
 
--- The core goes on as a server with a history, unless memory was wanting: then it is a server still.
+-- The core goes on as a server with a history, unless it was stopped: then it is a server still.
 abbrev pub StaysServing : {A G T : Type 0} → Hash → ServeCore A G → Result T Halt → Type 0
 StaysServing hash core (Ok done) = HasServed hash core
 StaysServing hash core (Err halt.LinkFault) = HasServed hash core
-StaysServing hash core (Err halt.NoMemory) = (server : Server) × Serves hash core server
+StaysServing hash core (Err halt.Stopped) = (server : Server) × Serves hash core server
 
 -- a message that goes on is counted, and is within the limit
 abbrev pub CountsMessage : ℕ → ℕ → Result Bool Halt → Type 0
 CountsMessage before now (Ok true) = (now ≡ before + 1) × (before < messages_limit)
 CountsMessage before now (Ok false) = ⊤
-CountsMessage before now (Err stopped) = ⊤
+CountsMessage before now (Err stop) = ⊤
 
--- A core served this server, and what was sent grew.
-module _ (hash : Hash) {A G : Type 0} (old new : ServeCore A G) (server : Server) (sent sent' : Option (List ℕ)) where
+-- what is kept at the end of a message, unless it was stopped
+abbrev pub StillKeeps : {T : Type 0} → Type 0 → Result T Halt → Type 0
+StillKeeps Kept (Ok done) = Kept
+StillKeeps Kept (Err halt.LinkFault) = Kept
+StillKeeps Kept (Err halt.Stopped) = ⊤
+
+-- a keeper fails only where serving is stopped
+abbrev pub StopCause : {T : Type 0} → (faults faults' : ℕ) → (faulted faulted' : Bool) → Result T Halt → Type 0
+StopCause faults faults' faulted faulted' (Ok done) = HasStayed faults faults' faulted faulted'
+StopCause faults faults' faulted faulted' (Err halt.LinkFault) = HasStayed faults faults' faulted faulted'
+StopCause faults faults' faulted faulted' (Err halt.Stopped) = MayHaveFailed faults faults' faulted faulted'
+
+-- A core served this server, its commits were kept so where it was stopped, and what was sent grew.
+module _ (hash : Hash) (Kept : (told made : List RoleCall) → Type 0) {A G : Type 0} (old new : ServeCore A G) (server : Server) (sent sent' : Option (List ℕ)) where
   -- The message was handled, and a front of the replies to it was sent.
   abbrev pub AnswersPart : meant.Heard → Type 0
   AnswersPart m =
       let step = step_of hash old server m in
       (n : ℕ) × (n ≤ length (bytes_of step.replies)) × (sent' ≡ append_known sent (take n (bytes_of step.replies))) × Serves hash new step.server
 
-  -- Memory was wanting to handle it, and nothing was sent.
+  -- The same, and all commits are kept.
+  abbrev pub AnswersKept : meant.Heard → Type 0
+  AnswersKept m = let step = step_of hash old server m in AnswersPart m × Kept step.server.shared.commits step.server.shared.commits
+
+  -- The server was stopped at it: memory was wanting to handle it, or its commits were not kept. Nothing was sent of it.
   abbrev pub IsStoppedAt : meant.Heard → Type 0
   IsStoppedAt m =
-      (sent' ≡ sent) × ((stopped : Server) × IsStopped hash (program_served old) (turns_of old) server m stopped × Serves hash new stopped)
+      (sent' ≡ sent)
+      × ((stopped : Server) × IsStopped hash (program_served old) (turns_of old) server m stopped × Serves hash new stopped
+      × Kept server.shared.commits stopped.shared.commits)
 
   -- It was handled, and all its replies were sent, with the answer whether the server closes the connection; or a part of that.
   abbrev pub Answers : meant.Heard → Result Bool Halt → Type 0
@@ -75,7 +95,7 @@ module _ (hash : Hash) {A G : Type 0} (old new : ServeCore A G) (server : Server
       let step = step_of hash old server m in
       (sent' ≡ append_known sent (bytes_of step.replies)) × (closing ≡ step.closing) × Serves hash new step.server
   Answers m (Err halt.LinkFault) = AnswersPart m
-  Answers m (Err halt.NoMemory) = AnswersPart m ⊎ IsStoppedAt m
+  Answers m (Err halt.Stopped) = AnswersKept m ⊎ IsStoppedAt m
 
   -- a request was heard of these bytes and answered, the connection goes on, and these bytes are left
   pub record GoesOn (bytes : List ℕ) (left' : Option (List ℕ)) : Type 0 where
@@ -96,7 +116,7 @@ module _ (hash : Hash) {A G : Type 0} (old new : ServeCore A G) (server : Server
     pub behind : Server
     pub takes : Takes bytes taken left'
     pub sends : sent' ≡ append_known sent out
-    pub served : IsServed hash (program_served old) (own_digest old) (turns_of old) server bytes taken out end behind
+    pub served : IsServed hash (program_served old) (own_digest old) (turns_of old) Kept server bytes taken out end behind
     pub serves : Serves hash new behind
 
   -- it broke off at a link fault, and the end is still to be heard
@@ -115,4 +135,4 @@ module _ (hash : Hash) {A G : Type 0} (old new : ServeCore A G) (server : Server
   ServesMessage bytes left' (Ok true) = GoesOn bytes left'
   ServesMessage bytes left' (Ok false) = Ends bytes left' Over
   ServesMessage bytes left' (Err halt.LinkFault) = BreaksOff bytes left'
-  ServesMessage bytes left' (Err halt.NoMemory) = Ends bytes left' NoMemory
+  ServesMessage bytes left' (Err halt.Stopped) = Ends bytes left' Stopped

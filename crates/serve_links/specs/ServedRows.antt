@@ -1,6 +1,6 @@
 -- Rows for how a connection ends and how links are served: a server of `unit_program`, a greeting and a leave. What each word takes, and what it
 -- refuses.
-use Rattle.std.specs.Prelude.{◌≡◌, ◌⊎◌, ◌<◌, ◌≤◌, ℕ, zero, suc, Bool, true, false, List, [], ◌∷◌, ◌++◌, Option, Some, None, Ok, Err, refl, take}
+use Rattle.std.specs.Prelude.{◌≡◌, ◌⊎◌, ℕ, zero, suc, Bool, true, false, List, [], ◌∷◌, ◌++◌, Option, Some, Ok, Err, refl, take}
 use Rattle.std.proofs.Common.{arith, inl, inr, lit<, lit≤}
 use Rattle.core_terms.specs.Formats.{Hash}
 use Rattle.core_terms.specs.Values.{UnitV}
@@ -15,10 +15,10 @@ use Rattle.serve_core.specs.Serving.{Serves}
 use Rattle.serve_core.specs.declared.server.ServeCore.{ServeCore}
 use Rattle.link_ends.specs.MoreLinks.{AreMore}
 use Rattle.link_ends.specs.declared.end.ConnectionEnd.{ConnectionEnd}
-use Rattle.link_ends.specs.declared.end.ConnectionEnd.TheVariants.{Over, LinkFault, NoMemory}
+use Rattle.link_ends.specs.declared.end.ConnectionEnd.TheVariants.{Over, LinkFault, Stopped}
 use Rattle.link_ends.specs.declared.halt.Halt.TheVariants as halt
 use Rattle.link_ends.specs.declared.end.ServingEnd.TheVariants as serving_end
-use Rattle.serve_links.specs.Connections.{GoOn, IsBrokenOff, IsCutAt, IsSentPart, IsServed, IsWithoutMemory, LeavesNoMemory}
+use Rattle.serve_links.specs.Connections.{AnyKept, GoOn, IsBrokenOff, IsCutAt, IsSentPart, IsServed, IsStoppedOn, LeavesStopped}
 use Rattle.serve_links.specs.Ends.{IsBroken, StaysServer}
 use Rattle.serve_links.specs.Histories.{HasServed, own_digest, program_served, turns_of}
 use Rattle.serve_links.specs.LinkLaws.{KeepsHistory}
@@ -109,23 +109,23 @@ part_is_not_heard cut = by cut.came
 pub broken_off : IsBrokenOff toy unit_program text_digest (last_turn 1) first (hello_bytes ++ (bye_bytes ++ bye_bytes)) (greeting ∷ leave ∷ []) (welcome ++ 0 ∷ [])
 broken_off = record { others = leave ∷ HearsEnd ∷ []; came = refl; go_on = (refl, tt); part = (8, lit≤ tt, lit≤ tt, refl) }
 
--- Memory was wanting for the leave: to the greeting all is replied, and no session is left.
-pub without_memory : IsWithoutMemory toy unit_program text_digest (last_turn 1) first (hello_bytes ++ bye_bytes) (greeting ∷ []) welcome first
-without_memory = record { next = leave; others = HearsEnd ∷ []; came = refl; go_on = (refl, tt); whole = refl; stopped = (refl, refl, refl) }
+-- It was stopped at the leave: to the greeting all is replied, and no session is left.
+pub stopped_at_leave : IsStoppedOn toy unit_program text_digest (last_turn 1) first (hello_bytes ++ bye_bytes) (greeting ∷ []) welcome first
+stopped_at_leave = record { next = leave; others = HearsEnd ∷ []; came = refl; go_on = (refl, tt); whole = refl; stopped = (refl, refl, refl) }
 
--- or it was wanting to read, or for a reply, or for the end that is heard at a link fault
-abbrev pub LacksMemory : (behind : Server) → Type 0
-LacksMemory behind = LeavesNoMemory toy unit_program text_digest (last_turn 1) first (hello_bytes ++ bye_bytes) (greeting ∷ []) welcome behind
+-- or as it read, or at a reply, or at the end that is heard at a link fault
+abbrev pub IsLeft : (behind : Server) → Type 0
+IsLeft behind = LeavesStopped toy unit_program text_digest (last_turn 1) first (hello_bytes ++ bye_bytes) (greeting ∷ []) welcome behind
 
-pub without_more : LacksMemory (server_after toy unit_program text_digest (last_turn 1) first (greeting ∷ [])) × LacksMemory first
-without_more = (inl refl, inr (inl refl))
+pub left_before : IsLeft (server_after toy unit_program text_digest (last_turn 1) first (greeting ∷ [])) × IsLeft first
+left_before = (inl refl, inr (inl refl))
 
-pub lacks_memory : LacksMemory first
-lacks_memory = inr (inr without_memory)
+pub left_at_leave : IsLeft first
+left_at_leave = inr (inr stopped_at_leave)
 
--- Where it is over, all was sent; where the link failed, or memory was wanting, as above.
+-- Where it is over, all was sent; where the link failed, or it was stopped, as above.
 abbrev pub IsServedTo : (bytes taken sent : List ℕ) → (end : ConnectionEnd) → (behind : Server) → Type 0
-IsServedTo bytes taken sent end behind = IsServed toy unit_program text_digest (last_turn 1) first bytes taken sent end behind
+IsServedTo bytes taken sent end behind = IsServed toy unit_program text_digest (last_turn 1) AnyKept first bytes taken sent end behind
 
 pub served_over : IsServedTo (hello_bytes ++ bye_bytes) (hello_bytes ++ bye_bytes) (welcome ++ farewell) Over first
 served_over = (refl, refl)
@@ -133,8 +133,8 @@ served_over = (refl, refl)
 pub served_cut : IsServedTo (hello_bytes ++ (bye_bytes ++ bye_bytes)) (hello_bytes ++ (bye_bytes ++ 0 ∷ 0 ∷ [])) (welcome ++ 0 ∷ 0 ∷ []) LinkFault first
 served_cut = (greeting ∷ leave ∷ [], cut_inside, refl)
 
-pub served_lacking : IsServedTo (hello_bytes ++ bye_bytes) hello_bytes welcome NoMemory first
-served_lacking = (greeting ∷ [], record { others = leave ∷ HearsEnd ∷ []; came = refl; go_on = tt; part = (7, lit≤ tt, lit≤ tt, refl) }, lacks_memory)
+pub served_stopped : IsServedTo (hello_bytes ++ bye_bytes) hello_bytes welcome Stopped first
+served_stopped = (greeting ∷ [], record { others = leave ∷ HearsEnd ∷ []; came = refl; go_on = tt; part = (7, lit≤ tt, lit≤ tt, refl) }, left_at_leave, tt)
 
 pub not_over_unsent : IsServedTo hello_bytes hello_bytes [] Over first → ⊥
 not_over_unsent served = let none : [] ≡ welcome = served.0 in cc (none)
@@ -154,7 +154,7 @@ abbrev pub failed : Linked
 failed = record { port = 4711; given = hello_bytes; left = bye_bytes; sent = []; reads = [] }
 
 abbrev pub IsOn : Linked → ConnectionEnd → Server → Type 0
-IsOn link end behind = IsServedOn toy unit_program text_digest (last_turn 1) first link end behind
+IsOn link end behind = IsServedOn toy unit_program text_digest (last_turn 1) AnyKept first link end behind
 
 pub link_is_served : IsOn link Over first
 link_is_served = record { served = (refl, refl); prompt = (([], (hello_bytes, refl, refl), refl), ((hello_bytes, ([], refl, refl), refl), tt)) }
@@ -162,35 +162,35 @@ link_is_served = record { served = (refl, refl); prompt = (([], (hello_bytes, re
 pub failed_is_served : IsOn failed LinkFault first
 failed_is_served = record { served = (greeting ∷ [], record { came = inr refl; go_on = tt; part = (0, lit≤ tt, lit≤ tt, refl) }, refl); prompt = tt }
 
-pub failed_lacks : IsOn failed NoMemory first
-failed_lacks = record {
-  served = (greeting ∷ [], record { others = leave ∷ HearsEnd ∷ []; came = refl; go_on = tt; part = (0, lit≤ tt, lit≤ tt, refl) }, inr (inl refl));
+pub failed_stops : IsOn failed Stopped first
+failed_stops = record {
+  served = (greeting ∷ [], record { others = leave ∷ HearsEnd ∷ []; came = refl; go_on = tt; part = (0, lit≤ tt, lit≤ tt, refl) }, inr (inl refl), tt);
   prompt = tt;
 }
 
-over_is_no_lack : Over ≡ NoMemory → ⊥
-over_is_no_lack e = cc (e)
+over_is_not_stopped : Over ≡ Stopped → ⊥
+over_is_not_stopped e = cc (e)
 
-fault_is_no_lack : LinkFault ≡ NoMemory → ⊥
-fault_is_no_lack e = cc (e)
+fault_is_not_stopped : LinkFault ≡ Stopped → ⊥
+fault_is_not_stopped e = cc (e)
 
 abbrev pub IsLink : Linked → (faulted : Bool) → Type 0
-IsLink link faulted = IsLinkServed toy unit_program text_digest (last_turn 1) first link faulted first
+IsLink link faulted = IsLinkServed toy unit_program text_digest (last_turn 1) AnyKept first link faulted first
 
 pub link_went : IsLink link false
-link_went = record { end = Over; served = link_is_served; memory = over_is_no_lack; fault = refl }
+link_went = record { end = Over; served = link_is_served; unstopped = over_is_not_stopped; fault = refl }
 
 pub failed_went : IsLink failed true
-failed_went = record { end = LinkFault; served = failed_is_served; memory = fault_is_no_lack; fault = refl }
+failed_went = record { end = LinkFault; served = failed_is_served; unstopped = fault_is_not_stopped; fault = refl }
 
 abbrev pub AreLinks : List Linked → (faulted : Bool) → Type 0
-AreLinks links faulted = AreServed toy unit_program text_digest (last_turn 1) first links faulted first
+AreLinks links faulted = AreServed toy unit_program text_digest (last_turn 1) AnyKept first links faulted first
 
 pub both_went : AreLinks (failed ∷ link ∷ []) true
 both_went = (true, false, first, failed_went, (false, false, first, link_went, (refl, refl), refl), refl)
 
-pub one_in_part : AreServedInPart toy unit_program text_digest (last_turn 1) first (link ∷ failed ∷ []) first
-one_in_part = record { before = link ∷ []; last = failed; all = refl; faulted = false; next = first; served = (false, false, first, link_went, (refl, refl), refl); broken = failed_lacks }
+pub one_in_part : AreServedInPart toy unit_program text_digest (last_turn 1) AnyKept first (link ∷ failed ∷ []) first
+one_in_part = record { before = link ∷ []; last = failed; all = refl; faulted = false; next = first; served = (false, false, first, link_went, (refl, refl), refl); broken = failed_stops }
 
 -- a fault of one of them is told
 pub fault_is_told : AreLinks [] true → ⊥
@@ -208,62 +208,62 @@ more_links = record { before = failed ∷ []; told = refl; all = refl; at_port =
 -- A core that served a link, or links, and stands behind them.
 module _ (hash : Hash) {A G : Type 0} (old new : ServeCore A G) (server behind : Server) (serves : Serves hash new behind) where
   abbrev pub OnCode : Linked → ConnectionEnd → Type 0
-  OnCode link end = IsServedOn hash (program_served old) (own_digest old) (turns_of old) server link end behind
+  OnCode link end = IsServedOn hash (program_served old) (own_digest old) (turns_of old) AnyKept server link end behind
 
-  pub one_served : (link : Linked) (end : ConnectionEnd) → OnCode link end → IsOneServed hash old new server link.port (Some []) (link ∷ []) end
+  pub one_served : (link : Linked) (end : ConnectionEnd) → OnCode link end → IsOneServed hash AnyKept old new server link.port (Some []) (link ∷ []) end
   one_served link end on = record { before = []; link = link; behind = behind; told = refl; all = refl; at_port = refl; served = on; serves = serves }
 
-  pub one_whole : (link : Linked) → OnCode link Over → IsOneWhole hash old new server link.port (Some []) (link ∷ []) false
-  one_whole link on = record { end = Over; one = one_served link Over on; memory = over_is_no_lack; fault = refl }
+  pub one_whole : (link : Linked) → OnCode link Over → IsOneWhole hash AnyKept old new server link.port (Some []) (link ∷ []) false
+  one_whole link on = record { end = Over; one = one_served link Over on; unstopped = over_is_not_stopped; fault = refl }
 
-  pub one_faulted : (link : Linked) → OnCode link LinkFault → IsOneWhole hash old new server link.port (Some []) (link ∷ []) true
-  one_faulted link on = record { end = LinkFault; one = one_served link LinkFault on; memory = fault_is_no_lack; fault = refl }
+  pub one_faulted : (link : Linked) → OnCode link LinkFault → IsOneWhole hash AnyKept old new server link.port (Some []) (link ∷ []) true
+  one_faulted link on = record { end = LinkFault; one = one_served link LinkFault on; unstopped = fault_is_not_stopped; fault = refl }
 
   abbrev pub AreOnCode : List Linked → (faulted : Bool) → Type 0
-  AreOnCode links faulted = AreServed hash (program_served old) (own_digest old) (turns_of old) server links faulted behind
+  AreOnCode links faulted = AreServed hash (program_served old) (own_digest old) (turns_of old) AnyKept server links faulted behind
 
-  pub more_served : AreOnCode (link ∷ []) false → AreMoreServed hash old new server 4711 (Some (failed ∷ [])) (failed ∷ link ∷ []) false 1
+  pub more_served : AreOnCode (link ∷ []) false → AreMoreServed hash AnyKept old new server 4711 (Some (failed ∷ [])) (failed ∷ link ∷ []) false 1
   more_served are = record { more = link ∷ []; behind = behind; are = more_links; number = refl; served = are; serves = serves }
 
-  pub more_in_part : AreServedInPart hash (program_served old) (own_digest old) (turns_of old) server (link ∷ []) behind
-      → AreMoreInPart hash old new server 4711 (Some (failed ∷ [])) (failed ∷ link ∷ []) 1
+  pub more_in_part : AreServedInPart hash (program_served old) (own_digest old) (turns_of old) AnyKept server (link ∷ []) behind
+      → AreMoreInPart hash AnyKept old new server 4711 (Some (failed ∷ [])) (failed ∷ link ∷ []) 1
   more_in_part are = record { more = link ∷ []; behind = behind; are = more_links; number = lit≤ tt; served = are; serves = serves }
 
   -- as many as there were to be; or fewer, since an accept failed
-  pub all_counted : AreOnCode (link ∷ []) false → AreCounted hash old new server 4711 (Some (failed ∷ [])) (failed ∷ link ∷ []) 1 false 0 0
+  pub all_counted : AreOnCode (link ∷ []) false → AreCounted hash AnyKept old new server 4711 (Some (failed ∷ [])) (failed ∷ link ∷ []) 1 false 0 0
   all_counted are = record { faulted = false; count = 1; served = more_served are; number = inl (refl, refl) }
 
-  pub fewer_counted : Rose 0 1 → AreOnCode (link ∷ []) false → AreCounted hash old new server 4711 (Some (failed ∷ [])) (failed ∷ link ∷ []) 2 true 0 1
+  pub fewer_counted : Rose 0 1 → AreOnCode (link ∷ []) false → AreCounted hash AnyKept old new server 4711 (Some (failed ∷ [])) (failed ∷ link ∷ []) 2 true 0 1
   fewer_counted rose are = record { faulted = false; count = 1; served = more_served are; number = inr (lit< tt, refl, rose) }
 
-  -- the core goes on as a server; where memory was wanting without a history
+  -- the core goes on as a server; where it was stopped without a history
   pub stays : HasServed hash new → StaysOn hash new (serving_end.Served false) × StaysServer hash new Over × StaysServer hash new LinkFault
   stays served = (served, served, served)
 
-  pub stays_server : StaysOn hash new serving_end.NoMemory × StaysServer hash new NoMemory
+  pub stays_server : StaysOn hash new serving_end.Stopped × StaysServer hash new Stopped
   stays_server = ((behind, serves), (behind, serves))
 
 -- what a step of the serving says, by its answer
 module _ (hash : Hash) {A G : Type 0} (old new : ServeCore A G) (server : Server) (links links' : Option (List Linked)) where
-  pub next_served : (faulted : Bool) → ((after : List Linked) → links' ≡ Some after → IsOneWhole hash old new server 4711 links after faulted)
-      → ServesNext hash old new server 4711 links links' (Ok faulted)
+  pub next_served : (faulted : Bool) → ((after : List Linked) → links' ≡ Some after → IsOneWhole hash AnyKept old new server 4711 links after faulted)
+      → ServesNext hash AnyKept old new server 4711 links links' (Ok faulted)
   next_served faulted one = one
 
-  pub next_lacks : ((after : List Linked) → links' ≡ Some after → IsOneServed hash old new server 4711 links after NoMemory)
-      → ServesNext hash old new server 4711 links links' (Err halt.NoMemory)
-  next_lacks one = one
+  pub next_stops : ((after : List Linked) → links' ≡ Some after → IsOneServed hash AnyKept old new server 4711 links after Stopped)
+      → ServesNext hash AnyKept old new server 4711 links links' (Err halt.Stopped)
+  next_stops one = one
 
-  pub none_accepted : ServesNext hash old old server 4711 links links (Err halt.LinkFault)
+  pub none_accepted : ServesNext hash AnyKept old old server 4711 links links (Err halt.LinkFault)
   none_accepted = (refl, refl)
 
-  pub links_served : (faulted : Bool) → ((after : List Linked) → links' ≡ Some after → AreCounted hash old new server 4711 links after 9 faulted 0 0)
-      → ServesLinks hash old new server 4711 links links' 9 0 0 (serving_end.Served faulted)
+  pub links_served : (faulted : Bool) → ((after : List Linked) → links' ≡ Some after → AreCounted hash AnyKept old new server 4711 links after 9 faulted 0 0)
+      → ServesLinks hash AnyKept old new server 4711 links links' 9 0 0 (serving_end.Served faulted)
   links_served faulted are = are
 
-  pub links_lack : ((after : List Linked) → links' ≡ Some after → AreMoreInPart hash old new server 4711 links after 9)
-      → ServesLinks hash old new server 4711 links links' 9 0 0 serving_end.NoMemory
-  links_lack are = are
+  pub links_stop : ((after : List Linked) → links' ≡ Some after → AreMoreInPart hash AnyKept old new server 4711 links after 9)
+      → ServesLinks hash AnyKept old new server 4711 links links' 9 0 0 serving_end.Stopped
+  links_stop are = are
 
 -- a connection that broke off
-pub breaks_off : IsBroken LinkFault × IsBroken NoMemory × (IsBroken Over → ⊥)
+pub breaks_off : IsBroken LinkFault × IsBroken Stopped × (IsBroken Over → ⊥)
 breaks_off = (tt, tt, (λ b. b))

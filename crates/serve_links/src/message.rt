@@ -6,7 +6,8 @@ ghost use Rattle.session_meaning.specs.Server.{Server};
 ghost use Rattle.link_ends.specs.Halts.{HaltCause};
 ghost use Rattle.serve_core.specs.Serving.{Serves, heard_meant};
 ghost use Rattle.serve_links.specs.Histories.{HasSameCode, HasServed};
-ghost use Rattle.serve_links.specs.Messages.{Answers, CountsMessage, HearsNext, ServesMessage, StaysServing, asks};
+ghost use Rattle.serve_links.specs.Messages.{Answers, CountsMessage, HearsNext, ServesMessage, StaysServing, StillKeeps, StopCause, asks};
+ghost use Rattle.session_turns.specs.Keepers.{KeepsBetween};
 ghost use Rattle.serve_links.specs.Prompt.{WaitsForOne};
 ghost use Rattle.wire_form.specs.MovedBytes.{Moves};
 ghost use Rattle.lam_outside.specs.Moments.{AtEachRead};
@@ -16,7 +17,7 @@ use core_terms::Hash32;
 use lam_outside::Link;
 use link_ends::Halt;
 use serve_core::{Heard, ServeCore};
-use session_turns::Gate;
+use session_turns::{Gate, Keeper};
 use std::alloc::Global;
 use std::thread::Threads;
 use wire_form::{ReadStop, read_request};
@@ -38,21 +39,29 @@ fn next_heard<L: Link>(alloc: Global, link: &mut L) -> Result<Heard, Halt>
         Err(ReadStop::End) => Ok(Heard::End),
         Err(ReadStop::Cut) => Ok(Heard::End),
         Err(ReadStop::LinkFault) => Err(Halt::LinkFault),
-        Err(ReadStop::NoMemory) => Err(Halt::NoMemory),
+        Err(ReadStop::NoMemory) => Err(Halt::Stopped),
     }
 }
 
-/// Lets the core hear a message, and sends the replies to it. Whether the core closes the connection.
-fn answer<H: Hash32, G: Gate + Drop, L: Link, R: Threads + Sync>(
+/// Lets the core hear a message, keeps the commits that it makes, and sends the replies to it. Whether the core closes the connection.
+///
+/// `Stopped` also where the commits are not kept: then all sessions are ended, and nothing of the replies is sent.
+fn answer<H: Hash32, G: Gate + Drop, K: Keeper, L: Link, R: Threads + Sync>(
     rt: &R,
     alloc: Global,
     core: &mut ServeCore<H, G>,
+    keeper: &mut K,
     link: &mut L,
     heard: Heard,
 ) -> Result<bool, Halt>
     requires history { HasServed H.hash core.old }
+    requires kept { (place : K.Place) × K.keeps keeper.old place core.old.shared.commits.items }
     requires message { IsHeard (heard_meant heard) }
-    ensures answers { (server : Server) → Serves H.hash core.old server → Answers H.hash core.old core.new server (L.sent link.old) (L.sent link.new) (heard_meant heard) result }
+    ensures answers { (server : Server) (place : K.Place) → Serves H.hash core.old server → K.keeps keeper.old place core.old.shared.commits.items
+        → Answers H.hash (KeepsBetween (K.keeps keeper.new place)) core.old core.new server (L.sent link.old) (L.sent link.new) (heard_meant heard) result }
+    ensures kept { (place : K.Place) → K.keeps keeper.old place core.old.shared.commits.items → StillKeeps (K.keeps keeper.new place core.new.shared.commits.items) result }
+    ensures keeper { StopCause (K.faults keeper.old) (K.faults keeper.new) (K.faulted keeper.old) (K.faulted keeper.new) result }
+    ensures keeper_rest { K.rest keeper.new ≡ K.rest keeper.old }
     ensures code { HasSameCode core.old core.new }
     ensures reads { L.reads link.new ≡ L.reads link.old }
     ensures given { L.given link.new ≡ L.given link.old }
@@ -61,6 +70,10 @@ fn answer<H: Hash32, G: Gate + Drop, L: Link, R: Threads + Sync>(
     ensures cause { HaltCause (L.faults link.old) (L.faults link.new) result }
 {
     let replies = core.handle(rt, heard)?;
+    if keeper.keep(core.commits()).is_err() {
+        core.end_sessions();
+        return Err(Halt::Stopped);
+    }
     send_replies(alloc, link, &replies.list)?;
     Ok(replies.closing)
 }
@@ -76,15 +89,20 @@ fn is_request(heard: &Heard) -> bool
 }
 
 /// Serves the next message of a connection. Whether the connection goes on.
-pub fn serve_message<H: Hash32, G: Gate + Drop, L: Link, R: Threads + Sync>(
+pub fn serve_message<H: Hash32, G: Gate + Drop, K: Keeper, L: Link, R: Threads + Sync>(
     rt: &R,
     alloc: Global,
     core: &mut ServeCore<H, G>,
+    keeper: &mut K,
     link: &mut L,
 ) -> Result<bool, Halt>
-    requires { HasServed H.hash core.old }
-    ensures served { ForSome (L.left link.old) (λ bytes. (server : Server) → Serves H.hash core.old server
-        → ServesMessage H.hash core.old core.new server (L.sent link.old) (L.sent link.new) bytes (L.left link.new) result) }
+    requires history { HasServed H.hash core.old }
+    requires kept { (place : K.Place) × K.keeps keeper.old place core.old.shared.commits.items }
+    ensures served { ForSome (L.left link.old) (λ bytes. (server : Server) (place : K.Place) → Serves H.hash core.old server → K.keeps keeper.old place core.old.shared.commits.items
+        → ServesMessage H.hash (KeepsBetween (K.keeps keeper.new place)) core.old core.new server (L.sent link.old) (L.sent link.new) bytes (L.left link.new) result) }
+    ensures kept { (place : K.Place) → K.keeps keeper.old place core.old.shared.commits.items → StillKeeps (K.keeps keeper.new place core.new.shared.commits.items) result }
+    ensures keeper { StopCause (K.faults keeper.old) (K.faults keeper.new) (K.faulted keeper.old) (K.faulted keeper.new) result }
+    ensures keeper_rest { K.rest keeper.new ≡ K.rest keeper.old }
     ensures history { StaysServing H.hash core.new result }
     ensures counts { CountsMessage core.old.heard core.new.heard result }
     ensures code { HasSameCode core.old core.new }
@@ -95,6 +113,6 @@ pub fn serve_message<H: Hash32, G: Gate + Drop, L: Link, R: Threads + Sync>(
 {
     let heard = next_heard(alloc, link)?;
     let asks = is_request(&heard);
-    let closing = answer(rt, alloc, core, link, heard)?;
+    let closing = answer(rt, alloc, core, keeper, link, heard)?;
     Ok(asks && !closing)
 }

@@ -17,12 +17,20 @@ use Rattle.ideal_meaning.proofs.Judged.{OnDone}
 use Rattle.ideal_meaning.proofs.Companion.{call_held, companion_of_frames}
 use Rattle.session_meaning.specs.Calls.{reads_state, role_in, RoleCall, outcome_of, frames_of}
 use Rattle.session_meaning.specs.Server.{Running}
+use Rattle.session_meaning.specs.Within.{IsStateWithin}
 use Rattle.session_meaning.proofs.ToldCalls.{reads_shape, reads_kind}
 
 module _ (P : Program) where
   -- a version in hand, with all that is authenticated in it
   abbrev pub IsGood : Value → Type 0
   IsGood v = IsHeld P (Unit {0}) P.state v
+
+  -- it is one that is within the limits
+  pub good_state : (v : Value) → IsStateWithin P v → IsGood v
+  good_state v s = record { ideal = s.ideal; within = s.fits; deep = λ l. s.deep }
+
+  pub state_within : (v : Value) → IsGood v → IsStateWithin P v
+  state_within v g = record { ideal = g.ideal; fits = g.within; deep = g.deep tt }
 
   -- a call of a role that reads the state, on an argument of its type
   pub record IsCall (call : RoleCall) : Type 0 where

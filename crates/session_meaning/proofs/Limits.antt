@@ -205,6 +205,6 @@ module _ (hash : Hash) (P : Program) (own : List ℕ) (ending : ℕ → ℕ) whe
       let k = handle_limited server m h o below in after_limited ms _ k.0 (handle_orderly hash P own ending server m o) k.1
 
 pub limits_hold : LimitsHold
-limits_hold hash P own ending first heard =
-    after_limited hash P own ending heard (Server.new_server first) (record { messages = omega arith; sessions = omega arith; versions = omega arith })
+limits_hold hash P own ending begun heard few =
+    after_limited hash P own ending heard (Server.begun_server begun) (record { messages = omega arith; sessions = omega arith; versions = few })
     (record { in_order = tt; in_range = λ n. tt }) tt

@@ -7,7 +7,7 @@ use Rattle.ideal_meaning.specs.Ideal.{Done, Trapped}
 use Rattle.ideal_meaning.specs.Checked.{Short, Leftover, BadUse, BadState, BadArgument}
 use Rattle.ideal_meaning.specs.Examples.{toy, unit_program, bool_program}
 use Rattle.session_meaning.specs.Messages.{Hello, Call, Bye, Reply, Welcome, Proof, Stale, Refused, Closed, Read, Got, Stops, AtEnd, NoMore, Then, request_bytes, read_reply, reply_of, messages}
-use Rattle.session_meaning.specs.Server.{last_turn}
+use Rattle.session_meaning.specs.Server.{last_turn, new_server}
 use Rattle.session_meaning.specs.Client.{Idle, Client, Event, Hellos, Calls, Byes, Hears, Forgets, Answer, Sends, TellsWelcome, Tells, TellsStale, TellsRefused, TellsEnded, StateFault, ArgumentFault, OutOfTurn, IsRejected, IsStranger, IsWrongReply, HasFailed, IsBroken, IsClosed, WantsMemory, waits, state_of, take_event, verdict_step, client_after, new_client}
 use Rattle.session_meaning.specs.ClientLaws.{told_calls}
 use Rattle.session_meaning.specs.Exchange.{Exchange, Move, Greets, Asks, Leaves, Goes, Takes, after_move, new_exchange}
@@ -209,7 +209,7 @@ abbrev pub exchanged : Exchange → List Move → List (Option Answer)
 exchanged x [] = []
 exchanged x (m ∷ ms) = let q = after_move toy bool_program text_digest (last_turn 1) x m in q.answer ∷ exchanged q.exchange ms
 
-pub flipped_and_read : exchanged (new_exchange (BoolV true)) (Greets 1 1 (toy (1 ∷ [])) ∷ Takes ∷ Asks 1 2 100 [] ∷ Goes 1 ∷ Takes ∷ Asks 1 1 100 [] ∷ Goes 1
+pub flipped_and_read : exchanged (new_exchange (new_server (BoolV true)).shared) (Greets 1 1 (toy (1 ∷ [])) ∷ Takes ∷ Asks 1 2 100 [] ∷ Goes 1 ∷ Takes ∷ Asks 1 1 100 [] ∷ Goes 1
     ∷ Takes ∷ Leaves 1 ∷ Takes ∷ Takes ∷ [])
     ≡ Some (Sends (Hello 1 text_digest 1 (toy (1 ∷ [])))) ∷ Some TellsWelcome ∷ Some (Sends (Call 1 2 100 [])) ∷ None
     ∷ Some (Tells (Done (PairV (DigestV (toy (0 ∷ []))) (BoolV true)))) ∷ Some (Sends (Call 1 1 100 [])) ∷ None

@@ -58,7 +58,7 @@ pub made_is_quiet : IsQuietFrom false 1 (map Hears made_before)
 made_is_quiet = (refl, tt, (refl, tt, (refl, tt, (refl, (refl, tt), (refl, tt, (refl, tt, (refl, (refl, tt), (refl, tt, (refl, tt, (refl, (refl, tt), (refl, (refl, tt), tt)))))))))))
 
 pub isolated : SessionsAreIsolated → replies_from true 1 (map Hears changed_meanwhile) ≡ replies_from false 1 (map Hears made_before)
-isolated law = law toy bool_program text_digest (last_turn 1) 1 (BoolV true) (BoolV false) (map Hears changed_meanwhile) (map Hears made_before) refl changed_is_quiet made_is_quiet refl
+isolated law = law toy bool_program text_digest (last_turn 1) 1 (new_server (BoolV true)).shared (new_server (BoolV false)).shared (map Hears changed_meanwhile) (map Hears made_before) refl changed_is_quiet made_is_quiet refl
 
 pub its_replies : replies_from true 1 (map Hears changed_meanwhile) ≡ Welcome 1 ∷ Proof 1 (seen_twice (1 ∷ [])) ∷ Proof 1 (seen_twice (1 ∷ [])) ∷ Closed 1 0 ∷ []
 its_replies = refl
@@ -106,13 +106,13 @@ two_sessions = Greets 1 0 (toy (1 ∷ [])) ∷ Greets 2 1 (toy (1 ∷ [])) ∷ A
 
 abbrev pub answer_after : List Move → Move → Option Answer
 answer_after moves m =
-    (after_move toy bool_program text_digest (last_turn 1) (exchange_after toy bool_program text_digest (last_turn 1) (new_exchange (BoolV true)) moves) m).answer
+    (after_move toy bool_program text_digest (last_turn 1) (exchange_after toy bool_program text_digest (last_turn 1) (new_exchange (new_server (BoolV true)).shared) moves) m).answer
 
 -- the law says of each of the moves behind it that it is well answered
 pub each_is_taken : RepliesAreTaken → IsTold (answer_after two_sessions Takes) × IsTold (answer_after (two_sessions ++ Takes ∷ []) Takes)
 each_is_taken law =
-    let says = law toy toy_gives_32_bytes bool_program (first_format_is_format 1024 (lit< tt)) ((typing_test_is_exact bool_program).0 refl) refl text_digest (last_turn 1) (BoolV true) tt
-    (record { size_fits = omega arith; depth_fits = omega arith }) (record { size_fits = omega arith; depth_fits = omega arith }, tt) in (
+    let says = law toy toy_gives_32_bytes bool_program (first_format_is_format 1024 (lit< tt)) ((typing_test_is_exact bool_program).0 refl) refl text_digest (last_turn 1) (new_server (BoolV true)).shared
+    (record { ideal = tt; fits = record { size_fits = omega arith; depth_fits = omega arith }; deep = (record { size_fits = omega arith; depth_fits = omega arith }, tt) }, tt) in (
       says two_sessions (tt, (tt, (tt, (tt, (tt, (tt, (tt, (tt, tt)))))))) Takes tt,
       says (two_sessions ++ Takes ∷ []) (tt, (tt, (tt, (tt, (tt, (tt, (tt, (tt, (tt, tt))))))))) Takes tt,
     )

@@ -3,6 +3,7 @@ pub mod Versions
 pub mod Marks
 pub mod Refusals
 pub mod Sharing
+pub mod Keepers
 pub mod Settling
 pub mod Laws
 pub mod Granting

@@ -6,7 +6,7 @@
 //! store; once it has run, it is [`Finished`], with its proof. A round takes one turn of each session, under its number: the calls run at once
 //! on threads, over a store that nobody changes, each passing a [`Gate`] first ([`round()`]); then the turns are settled one after another,
 //! in this order, each to what the machine leaves of its [`Session`] and of what is shared, with its reply.
-//! [`laws`] has what stays as the store grows.
+//! A [`Keeper`] keeps the commits, so that none is told that isn't kept. [`laws`] has what stays as the store grows.
 #![tactic(auto)]
 
 mod commit;
@@ -14,6 +14,7 @@ mod finishing;
 mod gate;
 mod grants;
 mod greetings;
+mod keeper;
 pub mod laws;
 mod marks;
 mod refusal;
@@ -31,6 +32,7 @@ pub use finishing::{Finished, state_made};
 pub use gate::{Gate, NoGate};
 pub use grants::Granted;
 pub use greetings::Room;
+pub use keeper::{Keeper, NoKeeper, NotKept};
 pub use refusal::{Denial, Refusal};
 pub use running::Running;
 pub use session::{Session, SessionCall, Turned};
