@@ -1,5 +1,5 @@
 -- How a run ended, by the number of its status: where no count rose, and what it stored.
-use Rattle.std.proofs.Common.{◌≡◌, ◌≢◌, ◌⊎◌, ◌↔◌, ◌<◌, ◌^◌, ◌-◌, ℕ, List, [], Option, Some, None, refl, ap, inl, inr, sym, ◌∙◌, arith}
+use Rattle.std.proofs.Common.{◌≡◌, ◌≢◌, ◌⊎◌, ◌<◌, ◌^◌, ◌-◌, ℕ, List, [], Option, Some, None, refl, ap, inl, inr, sym, ◌∙◌, arith}
 use Rattle.std.specs.Io.KnownBytes.{append_known}
 use Rattle.std.specs.List.{concat}
 use Rattle.std.specs.Prelude.{codes}
@@ -93,63 +93,6 @@ module _ (answer : Contents → Option Answer) (old new : Outside) where
   stored_first below status.ProgramRefused ends rose = absurd (no_rise below ends.stores rose)
   stored_first below status.InputRefused ends rose = absurd (no_rise below ends.stores rose)
   stored_first below status.Collision ends rose = absurd (no_rise below ends.stores rose)
-
-  -- 8 where the read count of the files rose, 9 and 10 aside
-  pub fault_told : old.read_faults < 2 ^ 64 - 1 → (ended : Status) → EndsAs answer old new ended → Rose old.read_faults new.read_faults
-      → (code ended ≡ 8) ⊎ ((code ended ≡ 9) ⊎ (code ended ≡ 10))
-  fault_told below status.ReadFault ends rose = inl refl
-  fault_told below status.WriteFault ends rose = inr (inl refl)
-  fault_told below status.NoMemory ends rose = inr (inr refl)
-  fault_told below status.Done ends rose = absurd (no_rise below ends.reads rose)
-  fault_told below status.Usage ends rose = absurd (no_rise below ends.reads rose)
-  fault_told below status.Trap ends rose = absurd (no_rise below ends.reads rose)
-  fault_told below status.OutOfFuel ends rose = absurd (no_rise below ends.reads rose)
-  fault_told below status.Rejected ends rose = absurd (no_rise below ends.reads rose)
-  fault_told below status.ProgramRefused ends rose = absurd (no_rise below ends.reads rose)
-  fault_told below status.InputRefused ends rose = absurd (no_rise below ends.reads rose)
-  fault_told below status.Collision ends rose = absurd (no_rise below ends.reads rose)
-
-  -- and there alone
-  pub fault_rose : (ended : Status) → EndsAs answer old new ended → code ended ≡ 8 → Rose old.read_faults new.read_faults
-  fault_rose status.ReadFault ends is = ends.rose
-  fault_rose status.WriteFault ends is = absurd (omega arith)
-  fault_rose status.NoMemory ends is = absurd (omega arith)
-  fault_rose status.Done ends is = absurd (omega arith)
-  fault_rose status.Usage ends is = absurd (omega arith)
-  fault_rose status.Trap ends is = absurd (omega arith)
-  fault_rose status.OutOfFuel ends is = absurd (omega arith)
-  fault_rose status.Rejected ends is = absurd (omega arith)
-  fault_rose status.ProgramRefused ends is = absurd (omega arith)
-  fault_rose status.InputRefused ends is = absurd (omega arith)
-  fault_rose status.Collision ends is = absurd (omega arith)
-
-  -- 9 exactly where the count of the sink or of `store` rose
-  module _ (writes : old.write_faults < 2 ^ 64 - 1) (stores : old.store_faults < 2 ^ 64 - 1) where
-    abbrev Writes : Status → Type 0
-    Writes ended = (code ended ≡ 9) ↔ (Rose old.write_faults new.write_faults ⊎ Rose old.store_faults new.store_faults)
-
-    neither : (ended : Status) → (code ended ≡ 9 → ⊥) → new.store_faults ≡ old.store_faults → new.write_faults ≡ old.write_faults → Writes ended
-    neither ended other same same' = (
-      (λ is. absurd (other is)),
-      (λ rose. elim rose [
-        | inl rose ↦ absurd (no_rise writes same' rose)
-        | inr rose ↦ absurd (no_rise stores same rose)
-      ]),
-    )
-
-    pub write_told : (ended : Status) → EndsAs answer old new ended → Writes ended
-    write_told status.WriteFault (inl fails) = ((λ is. inl fails.rose), (λ rose. refl))
-    write_told status.WriteFault (inr fails) = ((λ is. inr fails.rose), (λ rose. refl))
-    write_told status.ReadFault ends = neither status.ReadFault (λ is. omega arith) ends.stores ends.writes
-    write_told status.NoMemory ends = neither status.NoMemory (λ is. omega arith) ends.stores ends.writes
-    write_told status.Done ends = neither status.Done (λ is. omega arith) ends.stores ends.writes
-    write_told status.Usage ends = neither status.Usage (λ is. omega arith) ends.stores ends.writes
-    write_told status.Trap ends = neither status.Trap (λ is. omega arith) ends.stores ends.writes
-    write_told status.OutOfFuel ends = neither status.OutOfFuel (λ is. omega arith) ends.stores ends.writes
-    write_told status.Rejected ends = neither status.Rejected (λ is. omega arith) ends.stores ends.writes
-    write_told status.ProgramRefused ends = neither status.ProgramRefused (λ is. omega arith) ends.stores ends.writes
-    write_told status.InputRefused ends = neither status.InputRefused (λ is. omega arith) ends.stores ends.writes
-    write_told status.Collision ends = neither status.Collision (λ is. omega arith) ends.stores ends.writes
 
   -- what was written at 8, and at 10
   pub fault_line : (ended : Status) → EndsAs answer old new ended → code ended ≡ 8 → new.written ≡ append_known old.written (codes "read fault\n")

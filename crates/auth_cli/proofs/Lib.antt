@@ -3,8 +3,9 @@ pub mod OnlineRuns  -- `serve_command`, `ask_command`, `mirror_command`, `draw_c
 pub mod Courses  -- `listen_and_serve`, `serve`, `serve_command`; `answer_and_tell`, `mirror_command`
 pub mod ServeReading  -- `read_beginning`
 pub mod ServePrepared  -- `begin`, `last_image`
+pub mod KeptAs  -- `serve_and_tell`, `host`: how commits are kept
 pub mod ServeGone  -- `listen_and_serve`
-pub mod ServeCourses  -- `listen_and_serve`
+pub mod ServeCourses  -- `listen_and_serve`, `serve_and_tell`, `host`
 pub mod ServeRuns  -- `serve_command`
 pub mod ServedVersions  -- the law `served_versions`
 pub mod ServeStored  -- `store_last`, `tell_unstored`
@@ -21,6 +22,11 @@ pub mod DrawCounted  -- `draw_command`: clauses `counts`, `possible`
 pub mod DrawRuns  -- `draw_command`: clauses `ends`, `reached`
 pub mod DrawTruths  -- `run`: clause `drawn_truth`
 pub mod ServeCounted  -- `serve_command`: clauses `counts`, `possible`
+pub mod HostReading  -- `read_hosting`, `prepare`
+pub mod HostJournals  -- `host`: what the journal keeps
+pub mod HostCourses  -- `host`
+pub mod HostCounted  -- `host_command`: clauses `counts`, `possible`
+pub mod HostRuns  -- `host_command`: clause `ends`
 pub mod MirrorReading  -- `read_mirroring`
 pub mod MirrorCourses  -- `answer_and_tell`
 pub mod MirrorRuns  -- `mirror_command`
@@ -32,6 +38,8 @@ pub mod TrueAudits  -- `run`: clause `audited`
 pub mod AuditedRuns  -- `run`: clauses `audited`, `split`
 pub mod AnsweredRuns  -- `run`: clauses `companion`, `proves`, `audited`, `split`
 pub mod Answered  -- `run`: by the number of its status
-pub mod NetRuns  -- `carry_out`, `ended`, `run`: words that may call a command on the net
+pub mod RunCounts  -- `run`: clauses `fault`, `rose`, `write_fault`
+pub mod NetRuns  -- `carry_out`, `ended`, `run`: words that may call a command on the net or on a disk
+pub mod MemoryRuns  -- `ended`: words for which memory was wanting
 pub mod TrueLine  -- `run`: clause `headline`
 pub mod TrueFetch  -- `run`: clause `fetched`

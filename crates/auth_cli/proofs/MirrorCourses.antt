@@ -62,7 +62,7 @@ module _ (m : Mirroring) (net net' : NetSeen) where
     );
   }
 
-  lacking_made : Answers end.NoMemory → Made WithoutMemory
+  lacking_made : Answers end.Stopped → Made WithoutMemory
   lacking_made answers = λ after known. let h = answers after known in record {
     before = h.are.before;
     made = h.more;
@@ -90,7 +90,7 @@ module _ (m : Mirroring) (net net' : NetSeen) where
       is_told = course_told m.port (Served fault) (mirroring_lines m.port (Served fault)) (listening_line m.port) (concat (fault_lines fault)) refl tt (omega arith) ended written between written'
           before mid now first same told;
     }
-    by_end end.NoMemory answers cause told = record {
+    by_end end.Stopped answers cause told = record {
       course = WithoutMemory;
       gone = record { links = lacking_made answers; listened = listened; faults = (listens, dials) };
       is_told = course_told m.port WithoutMemory (mirroring_lines m.port WithoutMemory) (listening_line m.port) (codes "no memory\n") refl tt (omega arith) ended written between written'

@@ -1,5 +1,5 @@
 -- A server before its first connection has a history, and the last version of a server.
-use Rattle.std.proofs.Common.{◌≡◌, ◌<◌, ◌≤◌, ◌-◌, ℕ, List, [], ◌∷◌, length, get_or, Result, Vec, refl, ap, sym, ◌∙◌, subst, arith}
+use Rattle.std.proofs.Common.{◌≡◌, ◌<◌, ◌≤◌, ◌-◌, ℕ, List, [], ◌∷◌, length, get_or, Result, Vec, refl, ap, sym, ◌∙◌, subst, arith, lit≤}
 use Rattle.sha2.specs.Sha256.{sha256}
 use Rattle.code_gen.specs.Programs.{program_in}
 use Rattle.code_gen.specs.declared.code.Code.{Code}
@@ -10,8 +10,9 @@ use Rattle.core_terms.specs.Values.{Value, UnitV}
 use Rattle.mode_vm.specs.Meanings.{program_of}
 use Rattle.serve_core.specs.Serving.{Serves}
 use Rattle.serve_core.specs.declared.server.ServeCore.{ServeCore}
-use Rattle.serve_links.specs.Histories.{HasHistory, HasServed, turns_of}
-use Rattle.session_meaning.specs.Server.{Server, new_server}
+use Rattle.serve_links.specs.Histories.{HasServed, program_served}
+use Rattle.session_meaning.specs.Begun.{IsBegun}
+use Rattle.session_meaning.specs.Server.{Server, Shared, begun_server, new_server}
 use Rattle.session_turns.specs.Versions.{IsVersion}
 use Rattle.session_turns.proofs.Rows.{alike_get, alike_length}
 use Rattle.value_store.specs.Nodes.{AreSound, Node}
@@ -33,14 +34,22 @@ use Rattle.images.specs.declared.fault.SaveFault.{SaveFault}
 use Rattle.std.specs.declared.alloc.Global.{Global}
 use Rattle.value_store.specs.declared.store.Store.{Store}
 use Rattle.value_store.proofs.ProverNodes.{shown_ideal}
-use Rattle.file_commands.specs.Answer.{Serving, state_image}
+use Rattle.file_commands.specs.Answer.{Serving, first_shared, state_image}
 use Rattle.file_commands.specs.FueledRoles.{DigestedProgram}
 use Rattle.auth_cli.specs.PreparedServers.{HoldsProgram}
 use Rattle.auth_cli.specs.ServeSteps.{IsServer}
 use Rattle.auth_cli.specs.Serving.{last_image, last_version}
 use Rattle.file_commands.proofs.MarkedStates.{saved_by_types}
 
--- the first server has a history, in which nothing was heard
+-- a server that begins as one may has a history, in which nothing was heard
+pub begun_served : {A G : Type 0} (core : ServeCore A G) (begun : Shared) → IsBegun (program_served core) begun → Serves sha256 core (begun_server begun) → HasServed sha256 core
+begun_served core begun begins serves = record {
+  server = begun_server begun;
+  history = record { begun = begun; before = []; begins = begins; messages = tt; is = refl };
+  serves = serves;
+}
+
+-- so does the one that begins with a first version
 module _ {A G : Type 0} (core : ServeCore A G) (code : Code) (same : core.code ≡ code) (nodes : List Node) (sound : AreSound (program_of code).format.limit nodes) (root : Ref) (v : Value)
     (stands : IsVersion sha256 (program_of code) nodes root v) where
   abbrev P : Program
@@ -49,23 +58,23 @@ module _ {A G : Type 0} (core : ServeCore A G) (code : Code) (same : core.code �
   abbrev kind : Kind
   kind = ProverNodes (digest_at sha256 P)
 
-  begins : HasHistory sha256 P (program_in code).text_digest.0 (turns_of core) (new_server v)
+  begins : IsBegun P (first_shared v)
   begins = record {
-    first = v;
-    before = [];
-    ideal = ideal_stands kind P.types (prover_refers (digest_at sha256 P) P.types) nodes P.state v root.0 stands;
-    fits = within_stands kind P.types nodes P.state v root.0 sound stands;
-    deep = standing_is_deep P.format.limit (digest_at sha256 P) P.types nodes root.0 P.state v sound stands;
-    messages = tt;
-    is = refl;
+    within = (
+      record {
+        ideal = ideal_stands kind P.types (prover_refers (digest_at sha256 P) P.types) nodes P.state v root.0 stands;
+        fits = within_stands kind P.types nodes P.state v root.0 sound stands;
+        deep = standing_is_deep P.format.limit (digest_at sha256 P) P.types nodes root.0 P.state v sound stands;
+      },
+      tt,
+    );
+    few = lit≤ tt;
+    made = tt;
+    asked = tt;
   }
 
   pub first_served : Serves sha256 core (new_server v) → HasServed sha256 core
-  first_served serves = record {
-    server = new_server v;
-    history = subst (λ (code : Code). HasHistory sha256 (program_of code) (program_in code).text_digest.0 (turns_of core) (new_server v)) (sym same) begins;
-    serves = serves;
-  }
+  first_served serves = begun_served core (first_shared v) (subst (λ (code : Code). IsBegun (program_of code) (first_shared v)) (sym same) begins) serves
 
 -- the node of the last version stands for it
 module _ {A G : Type 0} (core : ServeCore A G) (server : Server) (serves : Serves sha256 core server) (some : 0 < length core.shared.versions.items) where

@@ -9,11 +9,11 @@ use Rattle.auth_cli.specs.Courses.{NotListening, NotWritten, Served, WithoutMemo
 use Rattle.auth_cli.specs.Serving.{first_server}
 
 pub versions_are_served : LinksKeepHistory → PartsKeepHistory → VersionsAreServed
-versions_are_served links parts s NotListening made accepts accepts' server m = subst (KeepsHistory s.program.program) (sym m.1) tt
-versions_are_served links parts s NotWritten made accepts accepts' server m = subst (KeepsHistory s.program.program) (sym m.1) tt
-versions_are_served links parts s (Served faulted) made accepts accepts' server m =
-    links sha256 s.program.program s.program.digest (last_turn s.slice) (first_server s) made m.0 server tt m.1
-versions_are_served links parts s WithoutMemory made accepts accepts' server (few, inl served) =
-    links sha256 s.program.program s.program.digest (last_turn s.slice) (first_server s) made served.0 server tt served.1
-versions_are_served links parts s WithoutMemory made accepts accepts' server (few, inr lacking) =
-    parts sha256 s.program.program s.program.digest (last_turn s.slice) (first_server s) made server tt lacking
+versions_are_served links parts s NotListening made accepts accepts' server begun m = subst (KeepsHistory s.program.program) (sym m.1) begun
+versions_are_served links parts s NotWritten made accepts accepts' server begun m = subst (KeepsHistory s.program.program) (sym m.1) begun
+versions_are_served links parts s (Served faulted) made accepts accepts' server begun m =
+    links sha256 s.program.program s.program.digest (last_turn s.slice) (first_server s) made m.0 server begun m.1
+versions_are_served links parts s WithoutMemory made accepts accepts' server begun (few, inl served) =
+    links sha256 s.program.program s.program.digest (last_turn s.slice) (first_server s) made served.0 server begun served.1
+versions_are_served links parts s WithoutMemory made accepts accepts' server begun (few, inr lacking) =
+    parts sha256 s.program.program s.program.digest (last_turn s.slice) (first_server s) made server begun lacking

@@ -19,6 +19,7 @@ use Rattle.session_meaning.specs.Server.{Server, last_turn, new_server}
 use Rattle.serve_core.specs.Serving.{Serves}
 use Rattle.serve_core.specs.declared.server.ServeCore.{ServeCore}
 use Rattle.link_ends.specs.declared.end.ServingEnd.TheVariants as end
+use Rattle.serve_links.specs.Connections.{AnyKept}
 use Rattle.serve_links.specs.ServedLinks.{AreServedInPart}
 use Rattle.file_commands.specs.Answer.{Answer, Serving, answer_with, with_serving}
 use Rattle.file_commands.specs.Ending.{EndsAs, Outside}
@@ -35,7 +36,7 @@ use Rattle.file_commands.specs.declared.status.Status.TheVariants.{Done, InputRe
 
 -- a serving of so many links, and its server before the first one
 abbrev pub serving_of : (links : ℕ) → Serving
-serving_of links = record { program = record { program = unit_program; digest = text_digest }; state = UnitV; port = 4711; links = links; slice = 1 }
+serving_of links = record { program = record { program = unit_program; digest = text_digest }; begun = record { versions = UnitV ∷ []; commits = [] }; port = 4711; links = links; slice = 1 }
 
 abbrev pub first : Server
 first = new_server UnitV
@@ -44,10 +45,10 @@ pub rose : Rose 3 4
 rose = lit≤ tt
 
 -- LINKS
-pub none_served : (links : ℕ) → AreServedOn (serving_of links) [] false first × (AreServedOn (serving_of links) [] true first → ⊥)
+pub none_served : (links : ℕ) → AreServedOn AnyKept (serving_of links) [] false first × (AreServedOn AnyKept (serving_of links) [] true first → ⊥)
 none_served links = ((refl, refl), (λ are. let e : true ≡ false = are.0 in cc (e)))
 
-pub served_lacking : (made : List Linked) (server : Server) → AreServedInPart sha256 unit_program text_digest (last_turn 1) first made server → AreServedLacking (serving_of 9) made server
+pub served_lacking : (made : List Linked) (server : Server) → AreServedInPart sha256 unit_program text_digest (last_turn 1) AnyKept first made server → AreServedLacking AnyKept (serving_of 9) made server
 served_lacking made server are = are
 
 -- as many as were to be served; or fewer, behind a failed accept
@@ -59,19 +60,19 @@ no_fault_is_made (inl are) = let e : true ≡ false = are.1 in cc (e)
 no_fault_is_made (inr are) = let fewer : 0 < 0 = are.0 in omega (arith, fewer)
 
 abbrev pub Makes : Course → Type 0
-Makes course = MakesLinks (serving_of 0) course [] 3 3 first
+Makes course = MakesLinks AnyKept (serving_of 0) course [] 3 3 first
 
 pub makes_links : Makes NotListening × Makes NotWritten × Makes (Served false) × Makes WithoutMemory
 makes_links = ((refl, refl), (refl, refl), (false, (refl, refl), inl (refl, refl)), (lit≤ tt, inl (false, (refl, refl))))
 
-pub makes_lacking : (made : List Linked) → length made ≤ 9 → AreServedLacking (serving_of 9) made first → MakesLinks (serving_of 9) WithoutMemory made 3 3 first
+pub makes_lacking : (made : List Linked) → length made ≤ 9 → AreServedLacking AnyKept (serving_of 9) made first → MakesLinks AnyKept (serving_of 9) WithoutMemory made 3 3 first
 makes_lacking made fewer are = (fewer, inr are)
 
-pub has_made : HasMade (serving_of 0) NotListening (Some []) [] 3 3 first
+pub has_made : HasMade AnyKept (serving_of 0) NotListening (Some []) [] 3 3 first
 has_made = record { before = []; made = []; told = refl; all = refl; at_port = tt; makes = (refl, refl) }
 
 pub made_at_port : (s : Serving) (course : Course) (links : Option (List Linked)) (after : List Linked) (accepts accepts' : ℕ) (server : Server)
-    (h : HasMade s course links after accepts accepts' server) → AllByRecursion (λ (link : Linked). link.port ≡ s.port) h.made
+    (h : HasMade AnyKept s course links after accepts accepts' server) → AllByRecursion (λ (link : Linked). link.port ≡ s.port) h.made
 made_at_port s course links after accepts accepts' server h = h.at_port
 
 -- COUNTS
@@ -157,7 +158,7 @@ unwritten_is_not_told written (inr told) = let none : 4 ≤ 3 = told.2 in omega 
 -- so it is behind the last link, of versions and commits, a fault and the want of memory
 pub end_is_told : IsEndTold 2 1 (end.Served true) ReadFault (Some []) (Some (codes "versions 2 commits 1\nlink fault\n")) 3 3
     × IsEndTold 2 1 (end.Served false) Done (Some []) (Some (codes "versions 2 commits 1\n")) 3 3 × IsEndTold 2 1 (end.Served false) NoMemory (Some []) (Some (codes "no memory\n")) 3 3
-    × IsEndTold 2 1 end.NoMemory NoMemory (Some []) (Some (codes "no memory\n")) 3 3
+    × IsEndTold 2 1 end.Stopped NoMemory (Some []) (Some (codes "no memory\n")) 3 3
 unfolding digits
 end_is_told = (inl (inl (refl, refl, refl)), inl (inl (refl, refl, refl)), inr (inl (refl, refl, refl)), inl (refl, refl, refl))
 
@@ -174,7 +175,7 @@ is_server core server i = (i.serves, i.some)
 -- WHOLE RUNS
 module _ (s : Serving) (name : List ℕ) (old new : Outside) (net net' : NetSeen) (status : Status) where
   pub course_of : {A G : Type 0} (core : ServeCore A G) (told : Status) (was is : Option (List ℕ)) (before now : ℕ) (t : TellsCourse s net net' core told was is before now)
-      → HasGone s net net' t.course t.server × IsServer core t.server × IsCourseTold s t.course t.server told was is before now
+      → HasGone AnyKept s net net' t.course t.server × IsServer core t.server × IsCourseTold s t.course t.server told was is before now
   course_of core told was is before now t = (t.gone, t.server_left, t.is_told)
 
   pub last_is_stored : (server : Server) (told : Status) (was is : Option (List ℕ)) (before now : ℕ)
@@ -190,12 +191,12 @@ module _ (s : Serving) (name : List ℕ) (old new : Outside) (net net' : NetSeen
   pub tells_part : (course : Course) (server : Server) (storage : Storage) (t : TellsPart s course server storage old new status) → (status ≡ WriteFault) × Rose old.write_faults new.write_faults
   tells_part course server storage t = (t.status, t.rose)
 
-  pub has_gone : (course : Course) (server : Server) (g : HasGone s net net' course server)
-      → ForSome net'.links (λ after. HasMade s course net.links after net.faults.accepts net'.faults.accepts server) × (net'.listened ≡ listened_behind s.port course net.listened)
+  pub has_gone : (course : Course) (server : Server) (g : HasGone AnyKept s net net' course server)
+      → ForSome net'.links (λ after. HasMade AnyKept s course net.links after net.faults.accepts net'.faults.accepts server) × (net'.listened ≡ listened_behind s.port course net.listened)
       × HasFaults course net.faults net'.faults
   has_gone course server g = (g.links, g.listened, g.faults)
 
-  pub ends_serving : (e : EndsServing s name old new net net' status) → HasGone s net net' e.course e.server
+  pub ends_serving : (e : EndsServing s name old new net net' status) → HasGone AnyKept s net net' e.course e.server
       × (TellsWhole s e.course e.server e.storage old new status ⊎ TellsPart s e.course e.server e.storage old new status)
       × IsStoredBy e.storage (last_image s e.server) name old.stores new.stores old.store_faults new.store_faults × (new.read_faults ≡ old.read_faults)
   ends_serving e = (e.gone, e.told, e.stored, e.reads)

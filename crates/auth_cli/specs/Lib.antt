@@ -14,9 +14,15 @@ pub mod MirrorSteps
 pub mod Drawing
 pub mod PreparedDrawings
 pub mod DrawSteps
+pub mod Hosting
+pub mod HostCounts
+pub mod PreparedHosts
+pub mod HostReading
+pub mod HostSteps
 pub mod NetRuns
 pub mod GreetingRows
 pub mod CourseRows
+pub mod HostRows
 pub mod MirrorRows
 pub mod NetRows
 pub mod AskRows

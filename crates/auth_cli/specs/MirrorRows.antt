@@ -80,17 +80,17 @@ unfolding digits
 mirroring_is_told = (inl (tt, refl, refl, refl), inr (refl, (19, lit≤ tt, refl), rose))
 
 pub end_is_told : IsEndTold (end.Served true) ReadFault (Some []) (Some (codes "link fault\n")) 3 3 × IsEndTold (end.Served false) Done (Some []) (Some []) 3 3
-    × IsEndTold end.NoMemory NoMemory (Some []) (Some (codes "no memory\n")) 3 3
+    × IsEndTold end.Stopped NoMemory (Some []) (Some (codes "no memory\n")) 3 3
 end_is_told = (inl (refl, refl, refl), inl (refl, refl, refl), inl (refl, refl, refl))
 
 apart : (Done ≡ NoMemory → ⊥) × (Done ≡ WriteFault → ⊥)
 apart = ((λ e. cc (e)), (λ e. cc (e)))
 
 -- the want of memory is not told as done
-pub want_is_told : (old new : Option (List ℕ)) (before now : ℕ) → (IsEndTold end.NoMemory Done old new before now → ⊥) × (IsMirroringTold 4711 WithoutMemory Done old new before now → ⊥)
+pub want_is_told : (old new : Option (List ℕ)) (before now : ℕ) → (IsEndTold end.Stopped Done old new before now → ⊥) × (IsMirroringTold 4711 WithoutMemory Done old new before now → ⊥)
 want_is_told old new before now = (by_end, by_course)
   where
-    by_end : IsEndTold end.NoMemory Done old new before now → ⊥
+    by_end : IsEndTold end.Stopped Done old new before now → ⊥
     by_end (inl told) = apart.0 told.0
     by_end (inr told) = apart.1 told.0
 

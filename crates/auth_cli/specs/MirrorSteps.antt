@@ -20,4 +20,4 @@ pub record TellsMirroring (m : Mirroring) (net net' : NetSeen) (told : Status) (
 -- How the connections ended is told: a fault, else nothing; or the want of memory.
 abbrev pub IsEndTold : ServingEnd → Status → (old new : Option (List ℕ)) → (before now : ℕ) → Type 0
 IsEndTold (end.Served faulted) told old new before now = TellsText (course_status (Served faulted)) (concat (fault_lines faulted)) told old new before now
-IsEndTold end.NoMemory told old new before now = TellsText NoMemory (codes "no memory\n") told old new before now
+IsEndTold end.Stopped told old new before now = TellsText NoMemory (codes "no memory\n") told old new before now

@@ -1,8 +1,8 @@
--- Rows for the counts of a run by its status, and for the commands that use a net. What each word takes, and what it refuses.
-use Rattle.std.specs.Prelude.{◌≡◌, ◌⊎◌, ◌≤◌, ℕ, List, Option, Some, None, refl}
+-- Rows for the counts of a run by its status, and for the commands that use a net or a disk. What each word takes, and what it refuses.
+use Rattle.std.specs.Prelude.{◌≡◌, ◌⊎◌, ◌≤◌, ℕ, List, [], ◌∷◌, Option, Some, None, refl}
 use Rattle.std.proofs.Common.{arith, ap, inl, inr}
 use Rattle.command_words.specs.Invocations.{Invocation}
-use Rattle.command_words.specs.declared.command.Command.TheVariants.{Check, Init, Ideal, Step, Shallow, Prove, Verify, Audit, Library, Gen, Serve, Ask, Pieces, Fetch, Mirror, Draw}
+use Rattle.command_words.specs.declared.command.Command.TheVariants.{Check, Init, Ideal, Step, Shallow, Prove, Verify, Audit, Library, Gen, Serve, Ask, Pieces, Fetch, Mirror, Draw, Found, Host, Replay}
 use Rattle.lam_outside.specs.Causes.{Rose}
 use Rattle.lam_outside.specs.Told.{Contents, Names}
 use Rattle.file_commands.specs.Answer.{Answer, answer_with, usage_answer}
@@ -11,11 +11,17 @@ use Rattle.file_commands.specs.Reaching.{IsReached}
 use Rattle.auth_cli.specs.Asking.{AskCounts, IsAsk}
 use Rattle.auth_cli.specs.CourseRows.{faults, rose}
 use Rattle.auth_cli.specs.Drawing.{DrawCounts, IsDraw}
+use Rattle.auth_cli.specs.HostCounts.{HostCounts}
+use Rattle.auth_cli.specs.Hosting.{IsHost}
 use Rattle.auth_cli.specs.Mirroring.{IsMirror, MirrorCounts}
 use Rattle.auth_cli.specs.NetFaults.{NetFaults, NetRose}
-use Rattle.auth_cli.specs.NetRuns.{CallsNoDial, CallsNoListen, DialsNone, EndsCommand, EndsRun, IsOffline, IsReadFaultAt, ListensToNone, UsesNoNet}
+use Rattle.auth_cli.specs.NetRuns.{CallsNoDial, CallsNoDisk, CallsNoListen, CallsNoNet, DialsNone, EndsCommand, EndsRun, IsOfFiles, IsOffline, IsReadFaultAt, ListensToNone, UsesNoDisk, UsesNoNet}
 use Rattle.auth_cli.specs.OnlineRuns.{CountsBy, NetSeen}
 use Rattle.auth_cli.specs.Serving.{IsServe, ServeCounts}
+use Rattle.journal_commands.specs.DiskCounts.{DiskCountsBy}
+use Rattle.journal_commands.specs.DisksSeen.{DiskSeen}
+use Rattle.journal_commands.specs.Founding.{EndsFounding}
+use Rattle.journal_commands.specs.Replaying.{EndsReplaying}
 use Rattle.file_commands.specs.declared.status.Status.{Status}
 use Rattle.file_commands.specs.declared.status.Status.TheVariants.{Done, ReadFault, WriteFault, NoMemory}
 
@@ -58,48 +64,104 @@ not_done c = let e : 4 ≡ 3 = ap (λ (f : NetFaults). f.dials) c.1 in omega (ar
 
 -- COMMANDS
 pub use_no_net : UsesNoNet Check × UsesNoNet Init × UsesNoNet Ideal × UsesNoNet Step × UsesNoNet Shallow × UsesNoNet Prove × UsesNoNet Verify × UsesNoNet Audit × UsesNoNet Library × UsesNoNet Gen
-    × UsesNoNet Pieces × UsesNoNet Fetch
-use_no_net = (tt, tt, tt, tt, tt, tt, tt, tt, tt, tt, tt, tt)
+    × UsesNoNet Pieces × UsesNoNet Fetch × UsesNoNet Found × UsesNoNet Replay
+use_no_net = (tt, tt, tt, tt, tt, tt, tt, tt, tt, tt, tt, tt, tt, tt)
 
-pub use_a_net : (UsesNoNet Serve → ⊥) × (UsesNoNet Ask → ⊥) × (UsesNoNet Mirror → ⊥) × (UsesNoNet Draw → ⊥)
-use_a_net = ((λ u. u), (λ u. u), (λ u. u), (λ u. u))
+pub use_a_net : (UsesNoNet Serve → ⊥) × (UsesNoNet Ask → ⊥) × (UsesNoNet Mirror → ⊥) × (UsesNoNet Draw → ⊥) × (UsesNoNet Host → ⊥)
+use_a_net = ((λ u. u), (λ u. u), (λ u. u), (λ u. u), (λ u. u))
 
-pub dials : DialsNone Serve × DialsNone Mirror × DialsNone Verify × (DialsNone Ask → ⊥) × (DialsNone Draw → ⊥)
-dials = (tt, tt, tt, (λ d. d), (λ d. d))
+pub use_no_disk : UsesNoDisk Check × UsesNoDisk Init × UsesNoDisk Ideal × UsesNoDisk Step × UsesNoDisk Shallow × UsesNoDisk Prove × UsesNoDisk Verify × UsesNoDisk Audit × UsesNoDisk Library
+    × UsesNoDisk Gen × UsesNoDisk Pieces × UsesNoDisk Fetch × UsesNoDisk Serve × UsesNoDisk Ask × UsesNoDisk Mirror × UsesNoDisk Draw
+use_no_disk = (tt, tt, tt, tt, tt, tt, tt, tt, tt, tt, tt, tt, tt, tt, tt, tt)
 
-pub listens : ListensToNone Ask × ListensToNone Draw × ListensToNone Verify × (ListensToNone Serve → ⊥) × (ListensToNone Mirror → ⊥)
-listens = (tt, tt, tt, (λ l. l), (λ l. l))
+pub use_a_disk : (UsesNoDisk Found → ⊥) × (UsesNoDisk Host → ⊥) × (UsesNoDisk Replay → ⊥)
+use_a_disk = ((λ u. u), (λ u. u), (λ u. u))
+
+-- either is enough to be no command of files
+pub of_files : IsOfFiles Check × IsOfFiles Fetch × (IsOfFiles Serve → ⊥) × (IsOfFiles Found → ⊥) × (IsOfFiles Host → ⊥) × (IsOfFiles Replay → ⊥)
+of_files = ((tt, tt), (tt, tt), (λ o. o.0), (λ o. o.1), (λ o. o.0), (λ o. o.1))
+
+pub dials : DialsNone Serve × DialsNone Mirror × DialsNone Verify × DialsNone Found × DialsNone Host × DialsNone Replay × (DialsNone Ask → ⊥) × (DialsNone Draw → ⊥)
+dials = (tt, tt, tt, tt, tt, tt, (λ d. d), (λ d. d))
+
+pub listens : ListensToNone Ask × ListensToNone Draw × ListensToNone Verify × ListensToNone Found × ListensToNone Replay
+    × (ListensToNone Serve → ⊥) × (ListensToNone Mirror → ⊥) × (ListensToNone Host → ⊥)
+listens = (tt, tt, tt, tt, tt, (λ l. l), (λ l. l), (λ l. l))
 
 -- the same of words that call a command, or none
-pub calls : (called : Invocation) → (UsesNoNet called.command → IsOffline (Some called)) × (DialsNone called.command → CallsNoDial (Some called)) × (ListensToNone called.command → CallsNoListen (Some called))
-calls called = ((λ u. u), (λ d. d), (λ l. l))
+pub calls : (called : Invocation) → (IsOfFiles called.command → IsOffline (Some called)) × (UsesNoNet called.command → CallsNoNet (Some called)) × (UsesNoDisk called.command → CallsNoDisk (Some called))
+    × (DialsNone called.command → CallsNoDial (Some called)) × (ListensToNone called.command → CallsNoListen (Some called))
+calls called = ((λ o. o), (λ u. u), (λ u. u), (λ d. d), (λ l. l))
 
-pub no_call : IsOffline None × CallsNoDial None × CallsNoListen None
-no_call = (tt, tt, tt)
+pub no_call : IsOffline None × CallsNoNet None × CallsNoDisk None × CallsNoDial None × CallsNoListen None
+no_call = (tt, tt, tt, tt, tt)
+
+abbrev pub replaying : Invocation
+replaying = record { command = Replay; texts = [] }
+
+pub on_a_disk : (IsOffline (Some replaying) → ⊥) × (CallsNoDisk (Some replaying) → ⊥) × CallsNoNet (Some replaying)
+on_a_disk = ((λ o. o.1), (λ u. u), tt)
 
 -- ENDS
-module _ (texts : List (List ℕ)) (old new : Outside) (net net' : NetSeen) (status : Status) where
-  pub ends_serve : IsServe texts old new net net' status → ServeCounts old new net.faults net'.faults status → EndsCommand Serve texts old new net net' status
-  ends_serve is counts = (is, counts)
+module _ (texts : List (List ℕ)) (old new : Outside) (net net' : NetSeen) (disk disk' : DiskSeen) (status : Status) where
+  -- each but `host`, `found` and `replay` leaves the disk as it was
+  pub ends_serve : IsServe texts old new net net' status → ServeCounts old new net.faults net'.faults status → EndsCommand Serve texts old new net net' disk disk status
+  ends_serve is counts = (is, counts, refl)
 
-  pub ends_ask : IsAsk texts old new net net' status → AskCounts old new net.faults net'.faults status → EndsCommand Ask texts old new net net' status
-  ends_ask is counts = (is, counts)
+  pub ends_ask : IsAsk texts old new net net' status → AskCounts old new net.faults net'.faults status → EndsCommand Ask texts old new net net' disk disk status
+  ends_ask is counts = (is, counts, refl)
 
-  pub ends_mirror : IsMirror texts old new net net' status → MirrorCounts old new net.faults net'.faults status → EndsCommand Mirror texts old new net net' status
-  ends_mirror is counts = (is, counts)
+  pub ends_mirror : IsMirror texts old new net net' status → MirrorCounts old new net.faults net'.faults status → EndsCommand Mirror texts old new net net' disk disk status
+  ends_mirror is counts = (is, counts, refl)
 
-  pub ends_draw : IsDraw texts old new net net' status → DrawCounts old new net.faults net'.faults status → EndsCommand Draw texts old new net net' status
-  ends_draw is counts = (is, counts)
+  pub ends_draw : IsDraw texts old new net net' status → DrawCounts old new net.faults net'.faults status → EndsCommand Draw texts old new net net' disk disk status
+  ends_draw is counts = (is, counts, refl)
 
-  -- all others leave the net as it was
-  pub ends_others : EndsAs (answer_with Verify texts) old new status → EndsCommand Verify texts old new net net status
-  ends_others ends = (ends, refl)
+  pub ends_host : IsHost texts old new net net' disk disk' status → HostCounts old new net.faults net'.faults disk disk' status → EndsCommand Host texts old new net net' disk disk' status
+  ends_host is counts = (is, counts)
 
-  pub ends_called : (called : Invocation) → EndsCommand called.command called.texts old new net net' status → EndsRun (Some called) old new net net' status
+  -- these two leave the net
+  pub ends_found : EndsFounding texts old new disk disk' status → DiskCountsBy old new disk disk' status → EndsCommand Found texts old new net net disk disk' status
+  ends_found ends counts = (ends, counts, refl)
+
+  pub ends_replay : EndsReplaying texts old new disk disk' status → DiskCountsBy old new disk disk' status → EndsCommand Replay texts old new net net disk disk' status
+  ends_replay ends counts = (ends, counts, refl)
+
+  -- all others leave both as they were
+  pub ends_others : EndsAs (answer_with Verify texts) old new status → EndsCommand Verify texts old new net net disk disk status
+  ends_others ends = (ends, refl, refl)
+
+  pub ends_called : (called : Invocation) → EndsCommand called.command called.texts old new net net' disk disk' status → EndsRun (Some called) old new net net' disk disk' status
   ends_called called ends = ends
 
-  pub ends_uncalled : EndsAs (λ files. Some usage_answer) old new status → EndsRun None old new net net status
-  ends_uncalled ends = (ends, refl)
+  pub ends_uncalled : EndsAs (λ files. Some usage_answer) old new status → EndsRun None old new net net disk disk status
+  ends_uncalled ends = (ends, refl, refl)
+
+  -- and so it is told
+  pub leave_disk : (EndsCommand Serve texts old new net net' disk disk' status → disk' ≡ disk) × (EndsCommand Verify texts old new net net' disk disk' status → disk' ≡ disk)
+      × (EndsRun None old new net net' disk disk' status → disk' ≡ disk)
+  leave_disk = ((λ ends. ends.2), (λ ends. ends.2), (λ ends. ends.2))
+
+  pub leave_net : (EndsCommand Found texts old new net net' disk disk' status → net' ≡ net) × (EndsCommand Replay texts old new net net' disk disk' status → net' ≡ net)
+      × (EndsCommand Verify texts old new net net' disk disk' status → net' ≡ net)
+  leave_net = ((λ ends. ends.2), (λ ends. ends.2), (λ ends. ends.1))
+
+-- no command on a disk ends with too few texts, or too many
+module _ (a b c d : List ℕ) (old new : Outside) (net net' : NetSeen) (disk disk' : DiskSeen) (status : Status) where
+  pub found_takes_three : (EndsCommand Found [] old new net net' disk disk' status → ⊥) × (EndsCommand Found (a ∷ b ∷ []) old new net net' disk disk' status → ⊥)
+      × (EndsCommand Found (a ∷ b ∷ c ∷ d ∷ []) old new net net' disk disk' status → ⊥)
+  found_takes_three = ((λ ends. ends.0), (λ ends. ends.0), (λ ends. ends.0))
+
+  pub replay_takes_three : (EndsCommand Replay [] old new net net' disk disk' status → ⊥) × (EndsCommand Replay (a ∷ b ∷ []) old new net net' disk disk' status → ⊥)
+      × (EndsCommand Replay (a ∷ b ∷ c ∷ d ∷ []) old new net net' disk disk' status → ⊥)
+  replay_takes_three = ((λ ends. ends.0), (λ ends. ends.0), (λ ends. ends.0))
+
+  pub host_takes_five : EndsCommand Host (a ∷ b ∷ c ∷ d ∷ []) old new net net' disk disk' status → ⊥
+  host_takes_five ends = by ends.0
+    where
+      by : IsHost (a ∷ b ∷ c ∷ d ∷ []) old new net net' disk disk' status → ⊥
+      by (inl unhosted) = unhosted.0
+      by (inr hosting) = hosting.of_words
 
 -- where no count rose a read fault is of a reached file
 pub read_fault_at : (answer : Contents → Option Answer) (contents : Option Contents) (asked : Option Names) (before now : ℕ) → IsReadFaultAt answer contents asked before now ReadFault

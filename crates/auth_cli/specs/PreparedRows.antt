@@ -15,8 +15,8 @@ use Rattle.serve_core.specs.Serving.{Serves}
 use Rattle.serve_core.specs.declared.server.ServeCore.{ServeCore}
 use Rattle.serve_links.specs.Histories.{HasServed}
 use Rattle.session_meaning.specs.Client.{new_client}
-use Rattle.session_meaning.specs.Server.{new_server}
-use Rattle.file_commands.specs.Answer.{Answer, Serving, serving_of}
+use Rattle.session_meaning.specs.Server.{begun_server}
+use Rattle.file_commands.specs.Answer.{Answer, Serving, first_shared, serving_of}
 use Rattle.file_commands.specs.ReadPrograms.{digested_of}
 use Rattle.file_commands.specs.StoredStates.{IsStoredState}
 use Rattle.auth_cli.specs.PreparedClients.{FitProgram, IsReady, TellsPort}
@@ -50,12 +50,12 @@ fit p inputs fits = fits
 pub is_ready : (client : PreparedClient) (r : IsReady client) → StandsFor client.core new_client × All (λ step. Fits (program_of client.core.code) (step_meant step)) client.steps.items
 is_ready client r = (r.stands, r.fits)
 
-pub begins_with : (p : Program) (beginning : Beginning) (s : Serving) (b : BeginsWith p beginning s) → IsStoredState (meaning p) beginning.state s.state
-    × (s ≡ serving_of (digested_of p) (numbers_of beginning.numbers) s.state)
+pub begins_with : (p : Program) (beginning : Beginning) (s : Serving) (b : BeginsWith p beginning s) → IsStoredState (meaning p) beginning.state b.state
+    × (s ≡ serving_of (digested_of p) (numbers_of beginning.numbers) (first_shared b.state))
 begins_with p beginning s b = (b.stands, b.is)
 
 pub is_prepared : (server : PreparedServer) (s : Serving) (i : IsPrepared server s) → (digested_of (program_in server.core.code) ≡ s.program) × (server.core.slice ≡ s.slice)
-    × (server.port ≡ s.port) × (server.connections ≡ s.links) × (server.greeting.items ≡ listening_line s.port) × Serves sha256 server.core (new_server s.state)
+    × (server.port ≡ s.port) × (server.connections ≡ s.links) × (server.greeting.items ≡ listening_line s.port) × Serves sha256 server.core (begun_server s.begun)
     × (0 < length server.core.shared.versions.items) × HasServed sha256 server.core
 is_prepared server s i = (i.program, i.slice, i.port, i.links, i.greeting, i.serves, i.some, i.served)
 

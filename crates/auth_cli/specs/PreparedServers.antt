@@ -3,14 +3,15 @@ use Rattle.std.specs.Prelude.{◌≡◌, ◌<◌, ℕ, List, Option, length}
 use Rattle.sha2.specs.Sha256.{sha256}
 use Rattle.code_gen.specs.Programs.{program_in}
 use Rattle.core_terms.specs.Programs.{meaning}
+use Rattle.core_terms.specs.Values.{Value}
 use Rattle.core_terms.specs.declared.program.Program.{Program}
 use Rattle.lam_outside.specs.Told.{Contents}
 use Rattle.printed_lines.specs.Lines.{listening_line}
 use Rattle.serve_core.specs.Serving.{Serves}
 use Rattle.serve_core.specs.declared.server.ServeCore.{ServeCore}
 use Rattle.serve_links.specs.Histories.{HasServed}
-use Rattle.session_meaning.specs.Server.{new_server}
-use Rattle.file_commands.specs.Answer.{Answer, Serving, ServingNumbers, serving_of, with_image_file, with_serving_numbers}
+use Rattle.session_meaning.specs.Server.{begun_server}
+use Rattle.file_commands.specs.Answer.{Answer, Serving, ServingNumbers, first_shared, serving_of, with_image_file, with_serving_numbers}
 use Rattle.file_commands.specs.FueledRoles.{DigestedProgram}
 use Rattle.file_commands.specs.ReadPrograms.{digested_of}
 use Rattle.file_commands.specs.StoredStates.{IsStoredState}
@@ -36,12 +37,13 @@ TellNumbers port links slice numbers = (go : ServingNumbers → Option Answer) �
 abbrev pub with_beginning : DigestedProgram → (image port links slice : List ℕ) → Contents → (Serving → Option Answer) → Option Answer
 with_beginning p image port links slice files go =
     with_serving_numbers port links slice (λ numbers.
-    with_image_file p (files image) (λ v. go (serving_of p numbers v)))
+    with_image_file p (files image) (λ v. go (serving_of p numbers (first_shared v))))
 
--- the serving of the program begins with this state
+-- the serving of the program begins with a state, which is loaded
 pub record BeginsWith (p : Program) (beginning : Beginning) (s : Serving) : Type 0 where
-  pub stands : IsStoredState (meaning p) beginning.state s.state
-  pub is : s ≡ serving_of (digested_of p) (numbers_of beginning.numbers) s.state
+  pub state : Value
+  pub stands : IsStoredState (meaning p) beginning.state state
+  pub is : s ≡ serving_of (digested_of p) (numbers_of beginning.numbers) (first_shared state)
 
 -- The server is that of this serving, before its first connection.
 pub record IsPrepared (server : PreparedServer) (s : Serving) : Type 0 where
@@ -50,7 +52,7 @@ pub record IsPrepared (server : PreparedServer) (s : Serving) : Type 0 where
   pub port : server.port ≡ s.port
   pub links : server.connections ≡ s.links
   pub greeting : server.greeting.items ≡ listening_line s.port
-  pub serves : Serves sha256 server.core (new_server s.state)
+  pub serves : Serves sha256 server.core (begun_server s.begun)
   pub some : 0 < length server.core.shared.versions.items
   pub served : HasServed sha256 server.core
 

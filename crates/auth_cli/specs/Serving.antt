@@ -14,8 +14,10 @@ use Rattle.printed_lines.specs.Lines.{link_fault_line, listening_line, refusal_l
 use Rattle.printed_lines.specs.declared.refusal.Argument.TheVariants as named
 use Rattle.printed_lines.specs.declared.refusal.InputFault.TheVariants.{TooLong}
 use Rattle.printed_lines.specs.declared.refusal.Refusal.TheVariants as refusal
+use Rattle.serve_links.specs.Connections.{AnyKept}
 use Rattle.serve_links.specs.ServedLinks.{AreServed, AreServedInPart}
-use Rattle.session_meaning.specs.Server.{Server, last_turn, new_server, version_at}
+use Rattle.session_meaning.specs.Calls.{RoleCall}
+use Rattle.session_meaning.specs.Server.{Server, begun_server, last_turn, version_at}
 use Rattle.file_commands.specs.Answer.{Answer, Serving, answer_with, max_file, state_image, with_serving}
 use Rattle.file_commands.specs.Ending.{Outside, EndsAs}
 use Rattle.auth_cli.specs.Courses.{AreMade, Course, HasFaults, IsListening, NotListening, NotWritten, Served, WithoutMemory, WritesFront, course_status, fault_lines, greeting_of, listened_behind}
@@ -28,40 +30,43 @@ use Rattle.file_commands.specs.declared.status.Status.TheVariants.{Done, InputRe
 -- LINKS
 -- the server before its first connection
 abbrev pub first_server : Serving → Server
-first_server s = new_server s.state
+first_server s = begun_server s.begun
 
--- The first server served these links, one after another, each by the server that the one before it left, whether one of them ended in a link
--- fault; and it left this server. `AreServedLacking` are they up to the last one, on which memory was wanting.
-abbrev pub AreServedOn : Serving → List Linked → (faulted : Bool) → Server → Type 0
-AreServedOn s made faulted server = AreServed sha256 s.program.program s.program.digest (last_turn s.slice) (first_server s) made faulted server
+-- `Kept` says how commits are kept where the serving is stopped: those that were told, and all that were made.
+module _ (Kept : (told made : List RoleCall) → Type 0) where
+  -- The first server served these links, one after another, each by the server that the one before it left, whether one of them ended in a link
+  -- fault; and it left this server. `AreServedLacking` are they up to the last one, on which the serving was stopped.
+  abbrev pub AreServedOn : Serving → List Linked → (faulted : Bool) → Server → Type 0
+  AreServedOn s made faulted server = AreServed sha256 s.program.program s.program.digest (last_turn s.slice) Kept (first_server s) made faulted server
 
-abbrev pub AreServedLacking : Serving → List Linked → Server → Type 0
-AreServedLacking s made server = AreServedInPart sha256 s.program.program s.program.digest (last_turn s.slice) (first_server s) made server
+  abbrev pub AreServedLacking : Serving → List Linked → Server → Type 0
+  AreServedLacking s made server = AreServedInPart sha256 s.program.program s.program.digest (last_turn s.slice) Kept (first_server s) made server
 
 -- COURSES
--- These links were made and served, and left this server.
-abbrev pub MakesLinks : Serving → Course → (made : List Linked) → (accepts accepts' : ℕ) → Server → Type 0
-MakesLinks s NotListening made accepts accepts' server = (made ≡ []) × (server ≡ first_server s)
-MakesLinks s NotWritten made accepts accepts' server = (made ≡ []) × (server ≡ first_server s)
-MakesLinks s (Served faulted) made accepts accepts' server =
-    (some_faulted : Bool) × AreServedOn s made some_faulted server × AreMade s.links made some_faulted faulted accepts accepts'
-MakesLinks s WithoutMemory made accepts accepts' server =
-    (length made ≤ s.links) × (((some_faulted : Bool) × AreServedOn s made some_faulted server) ⊎ AreServedLacking s made server)
+module _ (Kept : (told made : List RoleCall) → Type 0) where
+  -- These links were made and served, and left this server.
+  abbrev pub MakesLinks : Serving → Course → (made : List Linked) → (accepts accepts' : ℕ) → Server → Type 0
+  MakesLinks s NotListening made accepts accepts' server = (made ≡ []) × (server ≡ first_server s)
+  MakesLinks s NotWritten made accepts accepts' server = (made ≡ []) × (server ≡ first_server s)
+  MakesLinks s (Served faulted) made accepts accepts' server =
+      (some_faulted : Bool) × AreServedOn Kept s made some_faulted server × AreMade s.links made some_faulted faulted accepts accepts'
+  MakesLinks s WithoutMemory made accepts accepts' server =
+      (length made ≤ s.links) × (((some_faulted : Bool) × AreServedOn Kept s made some_faulted server) ⊎ AreServedLacking Kept s made server)
 
--- Where the links behind the serving are told, those before it are; they are these and more, all to the port, which were so made and served.
-pub record HasMade (s : Serving) (course : Course) (links : Option (List Linked)) (after : List Linked) (accepts accepts' : ℕ) (server : Server) : Type 0 where
-  pub before : List Linked
-  pub made : List Linked
-  pub told : links ≡ Some before
-  pub all : after ≡ before ++ made
-  pub at_port : AllByRecursion (λ (link : Linked). link.port ≡ s.port) made
-  pub makes : MakesLinks s course made accepts accepts' server
+  -- Where the links behind the serving are told, those before it are; they are these and more, all to the port, which were so made and served.
+  pub record HasMade (s : Serving) (course : Course) (links : Option (List Linked)) (after : List Linked) (accepts accepts' : ℕ) (server : Server) : Type 0 where
+    pub before : List Linked
+    pub made : List Linked
+    pub told : links ≡ Some before
+    pub all : after ≡ before ++ made
+    pub at_port : AllByRecursion (λ (link : Linked). link.port ≡ s.port) made
+    pub makes : MakesLinks s course made accepts accepts' server
 
--- The serving went so, and left this server.
-pub record HasGone (s : Serving) (net net' : NetSeen) (course : Course) (server : Server) : Type 0 where
-  pub links : ForSome net'.links (λ after. HasMade s course net.links after net.faults.accepts net'.faults.accepts server)
-  pub listened : net'.listened ≡ listened_behind s.port course net.listened
-  pub faults : HasFaults course net.faults net'.faults
+  -- The serving went so, and left this server.
+  pub record HasGone (s : Serving) (net net' : NetSeen) (course : Course) (server : Server) : Type 0 where
+    pub links : ForSome net'.links (λ after. HasMade s course net.links after net.faults.accepts net'.faults.accepts server)
+    pub listened : net'.listened ≡ listened_behind s.port course net.listened
+    pub faults : HasFaults course net.faults net'.faults
 
 -- LINES
 -- the line of so many versions and commits, and behind it that of a fault; and those that the server has
@@ -134,7 +139,7 @@ pub record EndsServing (s : Serving) (name : List ℕ) (old new : Outside) (net 
   pub course : Course
   pub server : Server
   pub storage : Storage
-  pub gone : HasGone s net net' course server
+  pub gone : HasGone AnyKept s net net' course server
   pub told : TellsWhole s course server storage old new status ⊎ TellsPart s course server storage old new status
   pub stored : IsStoredBy storage (last_image s server) name old.stores new.stores old.store_faults new.store_faults
   pub reads : new.read_faults ≡ old.read_faults

@@ -1,4 +1,4 @@
-//! The commands of lambda-auth on the net, over the files, the sink and the net that they are handed; and the top call of all commands.
+//! The commands of lambda-auth on the net, over the files, the sink, the net and the disk that they are handed; and the top call of all commands.
 #![tactic(auto)]
 
 mod ask;
@@ -6,6 +6,8 @@ mod asking;
 mod course_end;
 mod draw;
 mod drawing;
+mod host;
+mod hosting;
 mod last_version;
 pub mod laws;
 mod mirror;
@@ -16,6 +18,7 @@ mod top;
 
 pub use ask::ask_command;
 pub use draw::draw_command;
+pub use host::host_command;
 pub use mirror::mirror_command;
 pub use serve::serve_command;
 pub use top::run;

@@ -86,6 +86,6 @@ fn tell_end<O: Sink>(out: &mut O, end: ServingEnd) -> Status
             end_status(link_fault),
             fault_text(link_fault).as_bytes(),
         ),
-        ServingEnd::NoMemory => tell_text(out, Status::NoMemory, NO_MEMORY),
+        ServingEnd::Stopped => tell_text(out, Status::NoMemory, NO_MEMORY),
     }
 }

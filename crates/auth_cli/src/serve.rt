@@ -9,7 +9,8 @@ ghost use Rattle.file_commands.specs.Ending.{outside};
 ghost use Rattle.auth_cli.specs.NetFaults.{net_faults};
 ghost use Rattle.auth_cli.specs.PreparedServers.{IsPrepared};
 ghost use Rattle.file_commands.specs.Reaching.{IsReached};
-ghost use Rattle.auth_cli.specs.ServeSteps.{IsEndTold, TellsCourse};
+ghost use Rattle.auth_cli.specs.ServeSteps.{IsEndTold, KeeperFails, KeepsSoFar, ServesCourse, TellsCourse};
+ghost use Rattle.session_turns.specs.Keepers.{KeepsBetween};
 ghost use Rattle.auth_cli.specs.Serving.{EndsServing, IsServe, ServeCounts, count_lines};
 ghost use Rattle.auth_cli.specs.OnlineRuns.{net_seen};
 ghost use Rattle.file_commands.specs.Statuses.{MayAnswer};
@@ -23,7 +24,7 @@ use lam_outside::{Failed, Files, Net, Sink, write_all};
 use printed_lines::lines::{link_fault_line, versions_line};
 use serve_core::ServeCore;
 use serve_links::{ServingEnd, serve_links};
-use session_turns::NoGate;
+use session_turns::{Keeper, NoGate, NoKeeper};
 use std::alloc::{AllocError, Global};
 use std::thread::Threads;
 
@@ -79,12 +80,12 @@ fn serve<F: Files, O: Sink, N: Net, R: Threads + Sync>(
         (s : Serving) → IsPrepared server.old s → EndsServing s name.now (seen files.old out.old) (seen files.new out.new) (links net.old) (links net.new) result }
     ensures asked { F.asked files.new ≡ F.asked files.old }
 {
-    let told = listen_and_serve(rt, alloc, server, out, net);
+    let told = serve_and_tell(rt, alloc, server, out, net);
     store_last(alloc, &server.core, name, files, out, told)
 }
 
 /// Listens, serves the connections, and tells both. The status so far.
-fn listen_and_serve<O: Sink, N: Net, R: Threads + Sync>(
+fn serve_and_tell<O: Sink, N: Net, R: Threads + Sync>(
     rt: &R,
     alloc: Global,
     server: &mut PreparedServer,
@@ -97,21 +98,45 @@ fn listen_and_serve<O: Sink, N: Net, R: Threads + Sync>(
         → TellsCourse s (links net.old) (links net.new) server.new.core result (O.written out.old) (O.written out.new) (O.faults out.old) (O.faults out.new) }
     ensures code { HasSameCode server.old.core server.new.core }
 {
+    let mut keeper = NoKeeper;
+    match listen_and_serve(rt, alloc, server, &mut keeper, out, net) {
+        Ok(end) => tell_end(alloc, &server.core, out, end),
+        Err(status) => status,
+    }
+}
+
+/// Listens, tells so, and serves the connections, by a server whose commits are kept. How the serving ended; or the status where it could not listen, or
+/// not tell so.
+pub fn listen_and_serve<K: Keeper, O: Sink, N: Net, R: Threads + Sync>(
+    rt: &R,
+    alloc: Global,
+    server: &mut PreparedServer,
+    keeper: &mut K,
+    out: &mut O,
+    net: &mut N,
+) -> Result<ServingEnd, Status>
+    requires prepared { (s : Serving) × IsPrepared server.old s }
+    requires kept { (place : K.Place) × K.keeps keeper.old place server.old.core.shared.commits.items }
+    ensures course { let links = net_seen N.ended N.linked N.given N.left N.sent N.reads N.listened (net_faults N.faults N.listen_faults N.accept_faults N.dial_faults) in
+        (s : Serving) (place : K.Place) → IsPrepared server.old s → K.keeps keeper.old place server.old.core.shared.commits.items
+        → ServesCourse (KeepsBetween (K.keeps keeper.new place)) s (links net.old) (links net.new) server.new.core result (O.written out.old) (O.written out.new) (O.faults out.old) (O.faults out.new) }
+    ensures kept { (place : K.Place) → K.keeps keeper.old place server.old.core.shared.commits.items → KeepsSoFar (K.keeps keeper.new place server.new.core.shared.commits.items) result }
+    ensures keeper { KeeperFails (K.faults keeper.old) (K.faults keeper.new) (K.faulted keeper.old) (K.faulted keeper.new) result }
+    ensures keeper_rest { K.rest keeper.new ≡ K.rest keeper.old }
+    ensures code { HasSameCode server.old.core server.new.core }
+{
     match net.listen(server.port) {
         Ok(()) => match write_all(out, &server.greeting) {
-            Ok(()) => {
-                let end = serve_links(rt, alloc, &mut server.core, net, server.connections);
-                tell_end(alloc, &server.core, out, end)
-            }
-            Err(Failed) => Status::WriteFault,
+            Ok(()) => Ok(serve_links(rt, alloc, &mut server.core, keeper, net, server.connections)),
+            Err(Failed) => Err(Status::WriteFault),
         },
-        Err(Failed) => tell_text(out, Status::ReadFault, link_fault_line().as_bytes()),
+        Err(Failed) => Err(tell_text(out, Status::ReadFault, link_fault_line().as_bytes())),
     }
 }
 
 /// Tells how the serving of connections ended: how many versions and commits there are, and that a link failed; or that memory was
 /// wanting, also for these lines.
-fn tell_end<O: Sink>(
+pub fn tell_end<O: Sink>(
     alloc: Global,
     core: &ServeCore<Sha, NoGate>,
     out: &mut O,
@@ -124,7 +149,7 @@ fn tell_end<O: Sink>(
             Ok(text) => tell_text(out, end_status(link_fault), &text),
             Err(AllocError) => tell_text(out, Status::NoMemory, NO_MEMORY),
         },
-        ServingEnd::NoMemory => tell_text(out, Status::NoMemory, NO_MEMORY),
+        ServingEnd::Stopped => tell_text(out, Status::NoMemory, NO_MEMORY),
     }
 }
 

@@ -4,7 +4,7 @@ ghost use Rattle.std.specs.Option.{ForSome};
 ghost use Rattle.code_gen.specs.Programs.{program_in};
 ghost use Rattle.core_terms.specs.Programs.{meaning};
 ghost use Rattle.core_terms.specs.Values.{Value};
-ghost use Rattle.file_commands.specs.Answer.{Serving, serving_of, unserved_answer, with_serving, with_serving_numbers};
+ghost use Rattle.file_commands.specs.Answer.{Serving, first_shared, serving_of, unserved_answer, with_serving, with_serving_numbers};
 ghost use Rattle.file_commands.specs.Halting.{GoesOn, GoesOnFor, HaltCause, InHand};
 ghost use Rattle.file_commands.specs.Reaching.{FaultsAtReached};
 ghost use Rattle.file_commands.specs.ReadPrograms.{digested_of};
@@ -105,19 +105,19 @@ fn read_beginning<F: Files>(
     ensures stores { F.stores files.new ≡ F.stores files.old }
     ensures store_faults { F.store_faults files.new ≡ F.store_faults files.old }
 {
-    let numbers = read_numbers(words)?;
+    let numbers = read_numbers(words.port, words.connections, words.slice)?;
     let state = load_image_file(alloc, files, code.program(), words.image)?;
     Ok(Beginning { state, numbers })
 }
 
-/// The numbers that the words tell. The first that is refused halts it.
-fn read_numbers(words: &ServeWords<'_>) -> Result<Numbers, Halt>
-    ensures goes { let words = words.now in InHand (GoesOn (with_serving_numbers words.port.now words.connections.now words.slice.now) numbers_of) result }
+/// The numbers that words tell. The first that is refused halts it.
+pub fn read_numbers(port: &str, connections: &str, slice: &str) -> Result<Numbers, Halt>
+    ensures goes { InHand (GoesOn (with_serving_numbers port.now connections.now slice.now) numbers_of) result }
     ensures slice { IfOk result (λ numbers. 1 ≤ numbers.slice) }
 {
-    let port = positive_named(words.port, Argument::Port, MOST_PORT)?;
-    let connections = positive_named(words.connections, Argument::Connections, MOST_CONNECTIONS)?;
-    let slice = positive_named(words.slice, Argument::Slice, MOST_SLICE)?;
+    let port = positive_named(port, Argument::Port, MOST_PORT)?;
+    let connections = positive_named(connections, Argument::Connections, MOST_CONNECTIONS)?;
+    let slice = positive_named(slice, Argument::Slice, MOST_SLICE)?;
     Ok(Numbers {
         port: port as u16,
         connections: connections as u16,
@@ -141,7 +141,7 @@ fn prepare(
     requires state { (v : Value) × IsStoredState (meaning (program_in code)) beginning.state v }
     requires slice { 1 ≤ beginning.numbers.slice }
     ensures { IfOk result (λ server. (v : Value) → IsStoredState (meaning (program_in code)) beginning.state v
-        → IsPrepared server.value (serving_of (digested_of (program_in code)) (numbers_of beginning.numbers) v)) }
+        → IsPrepared server.value (serving_of (digested_of (program_in code)) (numbers_of beginning.numbers) (first_shared v))) }
 {
     let server = begin(alloc, code, beginning)?;
     Ok(Box::new(alloc, server)?)
@@ -152,7 +152,7 @@ fn begin(alloc: Global, code: Code, beginning: Beginning) -> Result<PreparedServ
     requires state { (v : Value) × IsStoredState (meaning (program_in code)) beginning.state v }
     requires slice { 1 ≤ beginning.numbers.slice }
     ensures { IfOk result (λ server. (v : Value) → IsStoredState (meaning (program_in code)) beginning.state v
-        → IsPrepared server (serving_of (digested_of (program_in code)) (numbers_of beginning.numbers) v)) }
+        → IsPrepared server (serving_of (digested_of (program_in code)) (numbers_of beginning.numbers) (first_shared v))) }
 {
     let Beginning { state, numbers } = beginning;
     let Loaded { store, root } = state;

@@ -5,7 +5,7 @@ ghost use Rattle.std.specs.Io.KnownBytes.{append_known};
 ghost use Rattle.command_words.specs.CommandLine.{AreRefused};
 ghost use Rattle.command_words.specs.Commands.{IsOfCommand, texts};
 ghost use Rattle.command_words.specs.Invocations.{Invocation, invocation_of};
-ghost use Rattle.command_words.specs.declared.command.Command.TheVariants.{Ask, Audit, Draw, Mirror, Prove, Serve};
+ghost use Rattle.command_words.specs.declared.command.Command.TheVariants.{Ask, Audit, Draw, Found, Host, Mirror, Prove, Replay, Serve};
 ghost use Rattle.collision_audit.specs.Splits.{Split};
 ghost use Rattle.lam_outside.specs.Causes.{Rose};
 ghost use Rattle.file_commands.specs.Answer.{Asking, Drawing, answer, answer_with};
@@ -17,7 +17,11 @@ ghost use Rattle.auth_cli.specs.Mirroring.{IsMirror};
 ghost use Rattle.file_commands.specs.Ending.{outside, EndsAs, IsOfFault, IsOfRefused, IsToldByCode, MayWrite, NoneRose, StoresSome, WritesPart, no_memory_text};
 ghost use Rattle.file_commands.specs.IdealCalls.{IdealCall};
 ghost use Rattle.auth_cli.specs.NetFaults.{NetRose, net_faults};
-ghost use Rattle.auth_cli.specs.NetRuns.{CallsNoDial, CallsNoListen, EndsCommand, EndsRun, IsOffline, IsReadFaultAt, UsesNoNet};
+ghost use Rattle.auth_cli.specs.NetRuns.{CallsNoDial, CallsNoDisk, CallsNoListen, CallsNoNet, EndsCommand, EndsRun, IsOfFiles, IsOffline, IsReadFaultAt, UsesNoDisk, UsesNoNet};
+ghost use Rattle.auth_cli.specs.Hosting.{IsHost};
+ghost use Rattle.journal_commands.specs.DisksSeen.{disk_seen};
+ghost use Rattle.journal_commands.specs.Founding.{EndsFounding};
+ghost use Rattle.journal_commands.specs.Replaying.{EndsReplaying};
 ghost use Rattle.auth_cli.specs.OnlineRuns.{net_seen};
 ghost use Rattle.file_commands.specs.ProvedCalls.{CallsProve, IsProved};
 ghost use Rattle.file_commands.specs.Reaching.{IsReached, ReachedAt};
@@ -27,14 +31,15 @@ ghost use Rattle.file_commands.specs.TrueFetches.{IsTrueFetch};
 ghost use Rattle.file_commands.specs.TrueLines.{IsTrueLine, TellsOutcome};
 ghost use Rattle.file_commands.specs.declared.status.Status.{Status};
 
-use crate::{ask_command, draw_command, mirror_command, serve_command};
+use crate::{ask_command, draw_command, host_command, mirror_command, serve_command};
 use command_words::{Command, WordsFault, read};
 use file_commands::{
     Halt, Status, audit_command, check_command, fetch_command, gen_command, ideal_command,
     init_command, library_command, pieces_command, prove_command, shallow_command, step_command,
     tell, verify_command,
 };
-use lam_outside::{Files, Net, Sink};
+use journal_commands::{found_command, replay_command};
+use lam_outside::{Disk, Files, Net, Sink};
 use std::alloc::Global;
 use std::thread::Threads;
 
@@ -52,8 +57,8 @@ use std::thread::Threads;
 /// | 0 | `pieces N` | `pieces`: the mirror that is stored has N pieces |
 /// | 0 | `done VALUE` | the outcome has this value, in projection; the image of the state that `init` or `step` made is stored, and the spelling of the one that `verify` names a file for |
 /// | 0, 3, 4 | `proof new A used U bytes B` | `prove`, behind the outcome's line: the proof has A pieces of its own, names U again, and the file that is stored has B bytes |
-/// | 0, 7, 8, 10 | `listening PORT` | `serve` and `mirror`, as soon as they listen; other lines may follow |
-/// | 0, 7, 8, 10 | `versions V commits C` | `serve`, behind its last connection: it has so many versions of the state, and commits that made them |
+/// | 0, 7, 8, 9, 10 | `listening PORT` | `serve`, `mirror` and `host`, as soon as they listen; other lines may follow |
+/// | 0, 7, 8, 10 | `versions V commits C` | `serve` and `host`, behind their last connection: they have so many versions of the state, and commits that made them; `replay`: so many are in the journal, and the image of the last version is stored |
 /// | 0, 5, 8, 10 | `S welcome`, `S done VALUE`, `S trap NAME`, `S out of fuel`, `S stale`, `S refused CODE`, `S closed` | `ask`: what session S is told; other lines may follow |
 /// | 0, 5, 8, 10 | `S out of turn` | `ask`: the script asks what session S can't do as it stands; other lines may follow |
 /// | 2 | `usage: lamauth COMMAND ARGUMENTS` | the words call no command |
@@ -87,11 +92,17 @@ use std::thread::Threads;
 /// | 7 | `input refused: mirror cut BYTES` | the mirror ends too early: how many bytes it has |
 /// | 7 | `input refused: mirror field OFFSET` | the field of the mirror is not allowed: its first bytes, the length of a piece over 1,048,608, or that of a piece that stood before |
 /// | 7 | `input refused: mirror leftover BYTES` | so many bytes stand behind the last piece |
+/// | 7 | `input refused: journal not empty` | `found`: the file of the journal has bytes |
+/// | 7 | `input refused: journal magic` | the journal doesn't begin as one |
+/// | 7 | `input refused: journal cut BYTES` | the journal ends inside a later part: how many bytes it has |
+/// | 7 | `input refused: journal program` | the journal is one of another program |
+/// | 7 | `input refused: journal image FAULT` | the image of the journal is refused: its first fault, as above |
+/// | 7 | `input refused: journal record NUMBER` | the record of the journal is no update that makes a version of the last one; records are numbered from 0 |
 /// | 7 | `input refused: argument KIND OFFSET` | the argument is no literal of its type: the first fault |
 /// | 7 | `input refused: script LINE` | the line of the script with this number, from 1, asks for nothing: the first such line |
-/// | 8 | `read fault` | a file could not be read |
-/// | 8, 10 | `link fault` | `serve`, `mirror`: they could not listen; `ask`, `draw`: they could not dial; or, as the last line, a link or an accept failed. 10 where memory was wanting for the image that `serve` stores |
-/// | 9 | a front of the lines, which may end inside of one | the sink failed, or a file could not be stored: then nothing is written, but by `serve` and `ask` all lines, or a front of them where the sink failed too |
+/// | 8 | `read fault` | a file could not be read, or a journal |
+/// | 8, 10 | `link fault` | `serve`, `mirror`, `host`: they could not listen; `ask`, `draw`: they could not dial; or, as the last line, a link or an accept failed. 10 where memory was wanting for the image that `serve` stores |
+/// | 9 | a front of the lines, which may end inside of one | the sink failed, or the disk of a journal could not be written, or a file not stored: then nothing is written, but by `host` the line that it listens, and by `serve` and `ask` all lines, or a front of them where the sink failed too |
 /// | 10 | `no memory` | memory was wanting; of `serve`, behind `versions V commits C` where it was for the image to store |
 /// | 11 | `collision PLACE OFFERED HONEST` | `audit`: the first offered piece that differs from the honest one has its digest: the place, and both pieces in lower-case hexadecimal digits, one without bytes as `-` |
 ///
@@ -113,20 +124,22 @@ use std::thread::Threads;
 /// The program's text has at most 262,144 bytes, each other file at most 67,108,864, but that a proof that is judged may
 /// have any length. What is refused first in this order ends the run: the words, the program, the role, the fuel, the number of
 /// pieces that are kept, the port, the number of connections, the number of calls in a turn, the state or the image, the argument,
-/// the script, the proof, the mirror; of `gen` the words, the name, the seed, the number of rounds, the number of pieces that are kept. A file is
+/// the script, the proof, the mirror, the journal; of `gen` the words, the name, the seed, the number of rounds, the number of pieces that are kept. A file is
 /// opened when all that stands before it is well-formed, so `read fault` comes only from a file that this order had reached. A file is
 /// stored before any line is written, but by `serve` and `ask`: they write their lines as they arise, and behind them `serve` stores the
 /// last version, however it ended once its words and files were in order, and `ask` the state told last, once it dialled. Behind
 /// `link fault` and `no memory` no line says that the image wasn't stored: where memory was wanting for it the status is 10, and where it
-/// would be too long it is as before. `serve`, `ask`, `mirror` and
-/// `draw` alone use the net, and wait for peers; `serve` alone starts threads, for the turns of a round.
-pub fn run<F: Files, O: Sink, N: Net, R: Threads + Sync>(
+/// would be too long it is as before. `serve`, `ask`, `mirror`,
+/// `draw` and `host` alone use the net, and wait for peers; `serve` and `host` alone start threads, for the turns of a round. `found`, `host` and `replay`
+/// alone use the disk, on which a journal may have any length. `host` keeps each commit in the journal before it tells it; where it can't, it ends.
+pub fn run<F: Files, O: Sink, N: Net, D: Disk, R: Threads + Sync>(
     rt: &R,
     alloc: Global,
     words: &[&str],
     files: &mut F,
     out: &mut O,
     net: &mut N,
+    disk: &mut D,
 ) -> u8
     requires reads_below { F.faults files.old < 2 ^ 64 - 1 }
     requires stores_below { F.store_faults files.old < 2 ^ 64 - 1 }
@@ -135,8 +148,10 @@ pub fn run<F: Files, O: Sink, N: Net, R: Threads + Sync>(
     requires listens_below { N.listen_faults net.old < 2 ^ 64 - 1 }
     requires accepts_below { N.accept_faults net.old < 2 ^ 64 - 1 }
     requires dials_below { N.dial_faults net.old < 2 ^ 64 - 1 }
+    requires disk_reads_below { D.read_faults disk.old < 2 ^ 64 - 1 }
+    requires disk_writes_below { D.write_faults disk.old < 2 ^ 64 - 1 }
 
-    // The one sentence from which the others follow, of words that call no command on the net: what was written and stored, and which
+    // The one sentence from which the others follow, of words that call no command on the net or on a disk: what was written and stored, and which
     // counts rose, by the status.
     ensures ends { IsOffline (invocation_of (texts words.now)) → let seen = outside F.contents F.stores F.faults F.store_faults O.written O.faults in
         (status : Status) × (result ≡ code status)
@@ -177,6 +192,22 @@ pub fn run<F: Files, O: Sink, N: Net, R: Threads + Sync>(
     // from the honest one has its digest.
     ensures drawn_truth { (called : Invocation) → invocation_of (texts words.now) ≡ Some called → called.command ≡ Draw
         → (drawing : Drawing) → CallsDraw called.texts (F.contents files.old) drawing → DrawsTrueOutcomes drawing.call }
+
+    // The one of `host`: what was sent on each link that was made, of which nothing tells a commit before it was kept, what was written of it, and what the
+    // journal keeps in the end and at each moment.
+    ensures hosts { let seen = outside F.contents F.stores F.faults F.store_faults O.written O.faults in let on = disk_seen D.contents D.moments D.read_faults D.write_faults in
+        let links = net_seen N.ended N.linked N.given N.left N.sent N.reads N.listened (net_faults N.faults N.listen_faults N.accept_faults N.dial_faults) in
+        (called : Invocation) → invocation_of (texts words.now) ≡ Some called → called.command ≡ Host
+        → (status : Status) × (result ≡ code status)
+        × IsHost called.texts (seen files.old out.old) (seen files.new out.new) (links net.old) (links net.new) (on disk.old) (on disk.new) status }
+
+    // Those of `found` and `replay`: status, lines and stored files, by the bytes of the journal's file too, and what they left on the disk.
+    ensures founds { let seen = outside F.contents F.stores F.faults F.store_faults O.written O.faults in let on = disk_seen D.contents D.moments D.read_faults D.write_faults in
+        (called : Invocation) → invocation_of (texts words.now) ≡ Some called → called.command ≡ Found
+        → (status : Status) × (result ≡ code status) × EndsFounding called.texts (seen files.old out.old) (seen files.new out.new) (on disk.old) (on disk.new) status }
+    ensures replays { let seen = outside F.contents F.stores F.faults F.store_faults O.written O.faults in let on = disk_seen D.contents D.moments D.read_faults D.write_faults in
+        (called : Invocation) → invocation_of (texts words.now) ≡ Some called → called.command ≡ Replay
+        → (status : Status) × (result ≡ code status) × EndsReplaying called.texts (seen files.old out.old) (seen files.new out.new) (on disk.old) (on disk.new) status }
 
     // Where no count rose, status, lines and stored files are those of the defined answer, or memory was wanting.
     ensures answered { IsOffline (invocation_of (texts words.now)) → let seen = outside F.contents F.stores F.faults F.store_faults O.written O.faults in
@@ -222,27 +253,31 @@ pub fn run<F: Files, O: Sink, N: Net, R: Threads + Sync>(
     ensures usage { result ≡ 2 → AreRefused (texts words.now) }
     ensures refused { AreRefused (texts words.now) → (result ≡ 2) ⊎ ((result ≡ 9) ⊎ (result ≡ 10)) }
 
-    // 8 exactly where the read count of the files or the count of the net rose, 9 and 10 aside; and then, of words that call no command on the
-    // net, `read fault` alone was written.
+    // 8 exactly where the read count of the files, a count of the net or the read count of the disk rose, 9 and 10 aside; and then, of words that call no
+    // command on the net or on a disk, `read fault` alone was written.
     ensures fault { let counts = net_faults N.faults N.listen_faults N.accept_faults N.dial_faults in
-        result ≡ 8 → Rose (F.faults files.old) (F.faults files.new) ⊎ NetRose (counts net.old) (counts net.new) }
+        result ≡ 8 → Rose (F.faults files.old) (F.faults files.new) ⊎ (NetRose (counts net.old) (counts net.new) ⊎ Rose (D.read_faults disk.old) (D.read_faults disk.new)) }
     ensures rose { let counts = net_faults N.faults N.listen_faults N.accept_faults N.dial_faults in
-        Rose (F.faults files.old) (F.faults files.new) ⊎ NetRose (counts net.old) (counts net.new) → (result ≡ 8) ⊎ ((result ≡ 9) ⊎ (result ≡ 10)) }
+        Rose (F.faults files.old) (F.faults files.new) ⊎ (NetRose (counts net.old) (counts net.new) ⊎ Rose (D.read_faults disk.old) (D.read_faults disk.new))
+        → (result ≡ 8) ⊎ ((result ≡ 9) ⊎ (result ≡ 10)) }
     ensures read_fault_line { IsOffline (invocation_of (texts words.now)) → result ≡ 8 → O.written out.new ≡ append_known (O.written out.old) (codes "read fault\n") }
 
-    // Words that call no command on the net leave it as it was; `ask` and `draw` alone dial, and `serve` and `mirror` alone listen and accept.
-    ensures unused { IsOffline (invocation_of (texts words.now)) → net.new ≡ net.old }
+    // Words that call no command on the net leave it as it was; `ask` and `draw` alone dial, and `serve`, `mirror` and `host` alone listen and accept.
+    ensures unused { CallsNoNet (invocation_of (texts words.now)) → net.new ≡ net.old }
     ensures dials { CallsNoDial (invocation_of (texts words.now)) → N.dial_faults net.new ≡ N.dial_faults net.old }
     ensures listens { CallsNoListen (invocation_of (texts words.now))
         → (N.listen_faults net.new ≡ N.listen_faults net.old) × (N.accept_faults net.new ≡ N.accept_faults net.old) }
+
+    // And so of the disk, which `found`, `host` and `replay` alone use.
+    ensures unused_disk { CallsNoDisk (invocation_of (texts words.now)) → disk.new ≡ disk.old }
 
     // And where a file could not be read, it is one that the order of refusals had reached: the one that was asked for last, without which
     // these words and the other files have no answer.
     ensures reached { result ≡ 8 → Rose (F.faults files.old) (F.faults files.new) → IsReached (answer (texts words.now)) (F.contents files.old) (F.asked files.new) }
 
-    // 9 exactly where the count of the sink or of `store` rose, and then a part of such a text was written.
+    // 9 exactly where the count of the sink, of `store` or of writing the disk rose, and then a part of such a text was written.
     ensures write_fault { result ≡ 9
-        ↔ (Rose (O.faults out.old) (O.faults out.new) ⊎ Rose (F.store_faults files.old) (F.store_faults files.new)) }
+        ↔ (Rose (O.faults out.old) (O.faults out.new) ⊎ (Rose (F.store_faults files.old) (F.store_faults files.new) ⊎ Rose (D.write_faults disk.old) (D.write_faults disk.new))) }
     ensures write_part { IsOffline (invocation_of (texts words.now)) → result ≡ 9 → ForSome (F.contents files.old) (λ told.
         (text : List ℕ) × MayWrite (answer (texts words.now) told) text × WritesPart (O.written out.old) (O.written out.new) text) }
 
@@ -258,35 +293,47 @@ pub fn run<F: Files, O: Sink, N: Net, R: Threads + Sync>(
     ensures stored { IsOffline (invocation_of (texts words.now))
         → ForSome (F.contents files.old) (λ told. StoresSome (answer (texts words.now) told) (F.stores files.old) (F.stores files.new)) }
 {
-    ended(rt, alloc, words, files, out, net).code()
+    ended(rt, alloc, words, files, out, net, disk).code()
 }
 
 /// Judges the words, and carries out the command that they call.
-fn ended<F: Files, O: Sink, N: Net, R: Threads + Sync>(
+fn ended<F: Files, O: Sink, N: Net, D: Disk, R: Threads + Sync>(
     rt: &R,
     alloc: Global,
     words: &[&str],
     files: &mut F,
     out: &mut O,
     net: &mut N,
+    disk: &mut D,
 ) -> Status
     ensures ends { let seen = outside F.contents F.stores F.faults F.store_faults O.written O.faults in
         let links = net_seen N.ended N.linked N.given N.left N.sent N.reads N.listened (net_faults N.faults N.listen_faults N.accept_faults N.dial_faults) in
-        EndsRun (invocation_of (texts words.now)) (seen files.old out.old) (seen files.new out.new) (links net.old) (links net.new) result }
-    ensures unused { IsOffline (invocation_of (texts words.now)) → net.new ≡ net.old }
+        let on = disk_seen D.contents D.moments D.read_faults D.write_faults in
+        EndsRun (invocation_of (texts words.now)) (seen files.old out.old) (seen files.new out.new) (links net.old) (links net.new) (on disk.old) (on disk.new) result }
+    ensures unused { CallsNoNet (invocation_of (texts words.now)) → net.new ≡ net.old }
+    ensures unused_disk { CallsNoDisk (invocation_of (texts words.now)) → disk.new ≡ disk.old }
     ensures reached { IsReadFaultAt (answer (texts words.now)) (F.contents files.old) (F.asked files.new) (F.faults files.old) (F.faults files.new) result }
     ensures possible { (called : Invocation) → invocation_of (texts words.now) ≡ Some called → MayAnswer called.command result }
     ensures refused { invocation_of (texts words.now) ≡ None → IsOfRefused result }
 {
     match read(alloc, words) {
-        Ok(called) => carry_out(rt, alloc, called.command, called.texts, files, out, net),
+        Ok(called) => carry_out(
+            rt,
+            alloc,
+            called.command,
+            called.texts,
+            files,
+            out,
+            net,
+            disk,
+        ),
         Err(WordsFault::Refused) => tell(alloc, out, Err(Halt::Usage)),
         Err(WordsFault::NoMemory) => tell(alloc, out, Err(Halt::NoMemory)),
     }
 }
 
 /// Carries out a command with as many texts as it has arguments.
-fn carry_out<F: Files, O: Sink, N: Net, R: Threads + Sync>(
+fn carry_out<F: Files, O: Sink, N: Net, D: Disk, R: Threads + Sync>(
     rt: &R,
     alloc: Global,
     command: Command,
@@ -294,12 +341,15 @@ fn carry_out<F: Files, O: Sink, N: Net, R: Threads + Sync>(
     files: &mut F,
     out: &mut O,
     net: &mut N,
+    disk: &mut D,
 ) -> Status
     requires { IsOfCommand command (texts words.now) }
     ensures ends { let seen = outside F.contents F.stores F.faults F.store_faults O.written O.faults in
         let links = net_seen N.ended N.linked N.given N.left N.sent N.reads N.listened (net_faults N.faults N.listen_faults N.accept_faults N.dial_faults) in
-        EndsCommand command (texts words.now) (seen files.old out.old) (seen files.new out.new) (links net.old) (links net.new) result }
+        let on = disk_seen D.contents D.moments D.read_faults D.write_faults in
+        EndsCommand command (texts words.now) (seen files.old out.old) (seen files.new out.new) (links net.old) (links net.new) (on disk.old) (on disk.new) result }
     ensures unused { UsesNoNet command → net.new ≡ net.old }
+    ensures unused_disk { UsesNoDisk command → disk.new ≡ disk.old }
     ensures reached { IsReadFaultAt (answer_with command (texts words.now)) (F.contents files.old) (F.asked files.new) (F.faults files.old) (F.faults files.new) result }
     ensures possible { MayAnswer command result }
 {
@@ -308,11 +358,14 @@ fn carry_out<F: Files, O: Sink, N: Net, R: Threads + Sync>(
         Command::Ask => ask_command(alloc, words, files, out, net),
         Command::Mirror => mirror_command(alloc, words, files, out, net),
         Command::Draw => draw_command(alloc, words, files, out, net),
+        Command::Host => host_command(rt, alloc, words, files, out, net, disk),
+        Command::Found => found_command(alloc, words, files, out, disk),
+        Command::Replay => replay_command(alloc, words, files, out, disk),
         _ => carry_out_offline(alloc, command, words, files, out),
     }
 }
 
-/// The same of a command that uses no net.
+/// The same of a command that uses files and the sink alone.
 fn carry_out_offline<F: Files, O: Sink>(
     alloc: Global,
     command: Command,
@@ -321,7 +374,7 @@ fn carry_out_offline<F: Files, O: Sink>(
     out: &mut O,
 ) -> Status
     requires command { IsOfCommand command (texts words.now) }
-    requires offline { UsesNoNet command }
+    requires offline { IsOfFiles command }
     ensures ends { let seen = outside F.contents F.stores F.faults F.store_faults O.written O.faults in
         EndsAs (answer_with command (texts words.now)) (seen files.old out.old) (seen files.new out.new) result }
     ensures reached { ReachedAt result (answer_with command (texts words.now)) (F.contents files.old) (F.asked files.new) }
@@ -341,5 +394,6 @@ fn carry_out_offline<F: Files, O: Sink>(
         Command::Pieces => pieces_command(alloc, words, files, out),
         Command::Fetch => fetch_command(alloc, words, files, out),
         Command::Serve | Command::Ask | Command::Mirror | Command::Draw => unreachable!(),
+        Command::Host | Command::Found | Command::Replay => unreachable!(),
     }
 }

@@ -2,7 +2,7 @@
 use Rattle.std.specs.Prelude.{◌≡◌, ◌⊎◌, ◌≤◌, ℕ, List, [], ◌∷◌, ◌++◌, length, map, find, bytes_eq, codes, Option, Some}
 use Rattle.std.specs.Borrow.{Bor}
 use Rattle.command_words.specs.declared.command.Command.{Command}
-use Rattle.command_words.specs.declared.command.Command.TheVariants.{Check, Init, Ideal, Step, Shallow, Prove, Verify, Audit, Library, Gen, Serve, Ask, Pieces, Fetch, Mirror, Draw}
+use Rattle.command_words.specs.declared.command.Command.TheVariants.{Check, Init, Ideal, Step, Shallow, Prove, Verify, Audit, Library, Gen, Serve, Ask, Pieces, Fetch, Mirror, Draw, Found, Host, Replay}
 
 abbrev pub Text : Type 0
 Text = List ℕ
@@ -45,6 +45,9 @@ commands =
     row Fetch (codes "fetch") (codes "P" ∷ codes "ROLE" ∷ codes "STATE" ∷ codes "ARG" ∷ codes "FUEL" ∷ codes "MIRROR" ∷ []) ∷
     row Mirror (codes "mirror") (codes "MIRROR" ∷ codes "PORT" ∷ codes "CONNS" ∷ []) ∷
     row Draw (codes "draw") (codes "P" ∷ codes "ROLE" ∷ codes "STATE" ∷ codes "ARG" ∷ codes "FUEL" ∷ codes "PORT" ∷ []) ∷
+    row Found (codes "found") (codes "P" ∷ codes "IMG" ∷ codes "JOURNAL" ∷ []) ∷
+    row Host (codes "host") (codes "P" ∷ codes "JOURNAL" ∷ codes "PORT" ∷ codes "CONNS" ∷ codes "SLICE" ∷ []) ∷
+    row Replay (codes "replay") (codes "P" ∷ codes "JOURNAL" ∷ codes "OUT" ∷ []) ∷
     []
 
 -- the row of this name

@@ -22,6 +22,9 @@ pub enum Command {
     Fetch,
     Mirror,
     Draw,
+    Found,
+    Host,
+    Replay,
 }
 
 /// A command that words call, with the texts of its arguments.
@@ -44,7 +47,7 @@ pub struct Row {
 
 /// The commands.
 #[rattlefmt::skip]
-static COMMANDS: [Row; 16] = [
+static COMMANDS: [Row; 19] = [
     Row { command: Command::Check, name: "check", arguments: &["P"], least: 1 },
     Row { command: Command::Init, name: "init", arguments: &["P", "ROLE", "ARG", "FUEL", "OUT"], least: 5 },
     Row { command: Command::Ideal, name: "ideal", arguments: &["P", "ROLE", "IMG", "ARG", "FUEL"], least: 5 },
@@ -61,6 +64,9 @@ static COMMANDS: [Row; 16] = [
     Row { command: Command::Fetch, name: "fetch", arguments: &["P", "ROLE", "STATE", "ARG", "FUEL", "MIRROR"], least: 6 },
     Row { command: Command::Mirror, name: "mirror", arguments: &["MIRROR", "PORT", "CONNS"], least: 3 },
     Row { command: Command::Draw, name: "draw", arguments: &["P", "ROLE", "STATE", "ARG", "FUEL", "PORT"], least: 6 },
+    Row { command: Command::Found, name: "found", arguments: &["P", "IMG", "JOURNAL"], least: 3 },
+    Row { command: Command::Host, name: "host", arguments: &["P", "JOURNAL", "PORT", "CONNS", "SLICE"], least: 5 },
+    Row { command: Command::Replay, name: "replay", arguments: &["P", "JOURNAL", "OUT"], least: 3 },
 ];
 
 /// The table of the commands.

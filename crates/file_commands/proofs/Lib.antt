@@ -31,4 +31,5 @@ pub mod OnProofs  -- `run`; the law `verdicts_are_on_proofs`
 pub mod NamedConstructors  -- the law `constructors_are_named`
 pub mod ClientStates  -- the law `shallow_stores_the_clients_state`
 pub mod MirrorSteps  -- `load_mirror`, `load_mirror_file`, `mirror_output`
+pub mod ImageBytes  -- `load_image_bytes`
 pub mod FetchedTold  -- `fetched_outcome`, `fetch_from`, `fetch_named`

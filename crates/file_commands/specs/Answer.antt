@@ -3,7 +3,7 @@ use Rattle.std.specs.Prelude.{ℕ, List, [], ◌∷◌, ◌++◌, length, map, B
 use Rattle.sha2.specs.Sha256.{sha256}
 use Rattle.command_words.specs.Invocations.{Invocation, invocation_of}
 use Rattle.command_words.specs.declared.command.Command.{Command}
-use Rattle.command_words.specs.declared.command.Command.TheVariants.{Check, Init, Ideal, Step, Shallow, Prove, Verify, Audit, Library, Gen, Serve, Ask, Pieces, Fetch, Mirror, Draw}
+use Rattle.command_words.specs.declared.command.Command.TheVariants.{Check, Init, Ideal, Step, Shallow, Prove, Verify, Audit, Library, Gen, Serve, Ask, Pieces, Fetch, Mirror, Draw, Found, Host, Replay}
 use Rattle.ads_library.specs.Texts.{library_text}
 use Rattle.lam_outside.specs.Told.{Contents, Stores}
 use Rattle.core_terms.specs.ProgramFormats.{most_kept_pieces}
@@ -24,6 +24,7 @@ use Rattle.images.specs.SavedImages.{saved_image}
 use Rattle.piece_mirror.specs.Answers.{given_by}
 use Rattle.piece_mirror.specs.Files.{FileFault, IsCut, IsBad, IsLeftover, Mirrored, Holds, Faulty, mirror_file, read_mirror}
 use Rattle.piece_mirror.specs.Filled.{all_added, pieces_in}
+use Rattle.session_meaning.specs.Server.{Shared, new_server}
 use Rattle.printed_lines.specs.Lines.{agrees_line, calls_line, collision_line, named_done_line, ok_line, out_line, pieces_line, refusal_line, rejected_line, state_line, trap_line}
 use Rattle.printed_lines.specs.declared.refusal.Argument.{Argument}
 use Rattle.printed_lines.specs.declared.refusal.Argument.TheVariants as named
@@ -173,6 +174,10 @@ with_image p bytes go = with_root (image_read p bytes) go
 
 abbrev pub with_image_file : DigestedProgram → Option (List ℕ) → (Value → Option Answer) → Option Answer
 with_image_file p file go = with_file max_file named.Image file (λ bytes. with_image p bytes go)
+
+-- goes on with the bytes of a file that is an image of the program
+abbrev pub with_image_bytes : DigestedProgram → Option (List ℕ) → (List ℕ → Option Answer) → Option Answer
+with_image_bytes p file go = with_file max_file named.Image file (λ bytes. with_image p bytes (λ v. go bytes))
 
 -- `check P`: the digest of the program's text
 abbrev pub checked_answer : List ℕ → Contents → Option Answer
@@ -552,28 +557,55 @@ with_serving_numbers port links slice go =
     with_number named.Slice (positive_within most_slice slice) (λ k.
     go (record { port = n; links = m; slice = k }))))
 
--- what is served: a program, from this state on, and by these numbers
+-- what is served: a program, from these versions and commits on, and by these numbers
 pub record Serving : Type 0 where
   pub program : DigestedProgram
-  pub state : Value
+  pub begun : Shared
   pub port : ℕ
   pub links : ℕ
   pub slice : ℕ
 
-abbrev pub serving_of : DigestedProgram → ServingNumbers → Value → Serving
-serving_of p numbers v = record { program = p; state = v; port = numbers.port; links = numbers.links; slice = numbers.slice }
+abbrev pub serving_of : DigestedProgram → ServingNumbers → Shared → Serving
+serving_of p numbers begun = record { program = p; begun = begun; port = numbers.port; links = numbers.links; slice = numbers.slice }
+
+-- a first version, without commits
+abbrev pub first_shared : Value → Shared
+first_shared v = (new_server v).shared
 
 -- Goes on with what the words and the files mean to serve: the program's file, the numbers from left to right, and then the image are judged.
 abbrev pub with_serving : (program image port links slice : List ℕ) → Contents → (Serving → Option Answer) → Option Answer
 with_serving program image port links slice files go =
     with_program_file (files program) (λ p.
     with_serving_numbers port links slice (λ numbers.
-    with_image_file p.digested (files image) (λ v. go (serving_of p.digested numbers v))))
+    with_image_file p.digested (files image) (λ v. go (serving_of p.digested numbers (first_shared v)))))
 
 -- What `serve P IMG PORT CONNS SLICE OUT` answers where it never comes to listen. How it ends from there on depends on the links, and stands in
 -- `Serving.antt`.
 abbrev pub unserved_answer : (program image port links slice : List ℕ) → Contents → Option Answer
 unserved_answer program image port links slice files = with_serving program image port links slice files (λ serving. None)
+
+-- what a journal is made of: a program, and the bytes of an image of it
+pub record Founding : Type 0 where
+  pub program : DigestedProgram
+  pub image : List ℕ
+
+-- Goes on with the journal that the words and the files mean: the program's file, and then the image are judged.
+abbrev pub with_founding : (program image : List ℕ) → Contents → (Founding → Option Answer) → Option Answer
+with_founding program image files go =
+    with_program_file (files program) (λ p.
+    with_image_bytes p.digested (files image) (λ bytes. go (record { program = p.digested; image = bytes })))
+
+-- What `found P IMG JOURNAL`, `host P JOURNAL PORT CONNS SLICE` and `replay P JOURNAL OUT` answer where they come to no journal. How they end from
+-- there on depends on the disk.
+abbrev pub unfounded_answer : (program image : List ℕ) → Contents → Option Answer
+unfounded_answer program image files = with_founding program image files (λ f. None)
+
+abbrev pub unhosted_answer : (program port links slice : List ℕ) → Contents → Option Answer
+unhosted_answer program port links slice files =
+    with_program_file (files program) (λ p. with_serving_numbers port links slice (λ numbers. None))
+
+abbrev pub unreplayed_answer : (program : List ℕ) → Contents → Option Answer
+unreplayed_answer program files = with_program_file (files program) (λ p. None)
 
 -- bytes as a script for a program
 unfoldable pub script_read : NamedProgram → List ℕ → Script
@@ -658,8 +690,9 @@ undrawn_answer program role state argument fuel port files = with_drawing progra
 -- What is answered to a command with the texts of its arguments: `check P`, `init P ROLE ARG FUEL OUT`, `ideal P ROLE IMG ARG FUEL`,
 -- `step P ROLE IMG ARG FUEL OUT`, `shallow P IMG OUT`, `prove P ROLE IMG ARG FUEL N OUT`, `verify P ROLE STATE ARG FUEL PROOF`, or this with `OUT` behind it, `audit P ROLE IMG ARG FUEL PROOF`,
 -- `library NAME`, `gen NAME SEED COUNT N`, `serve P IMG PORT CONNS SLICE OUT` as long as it doesn't listen, `ask P STATE PORT SCRIPT OUT` as
--- long as it doesn't dial, `pieces P IMG OUT`, `fetch P ROLE STATE ARG FUEL MIRROR`, `mirror MIRROR PORT CONNS` as long as it doesn't listen, and
--- `draw P ROLE STATE ARG FUEL PORT` as long as it doesn't dial. No command is called with more texts or fewer.
+-- long as it doesn't dial, `pieces P IMG OUT`, `fetch P ROLE STATE ARG FUEL MIRROR`, `mirror MIRROR PORT CONNS` as long as it doesn't listen,
+-- `draw P ROLE STATE ARG FUEL PORT` as long as it doesn't dial, and `found P IMG JOURNAL`, `host P JOURNAL PORT CONNS SLICE` and `replay P JOURNAL OUT`
+-- as long as they touch no disk. No command is called with more texts or fewer.
 abbrev pub answer_with : Command → List (List ℕ) → Contents → Option Answer
 answer_with Check (program ∷ []) = checked_answer program
 answer_with Init (program ∷ role ∷ argument ∷ fuel ∷ out ∷ []) = initial_answer program role argument fuel out
@@ -678,6 +711,9 @@ answer_with Pieces (program ∷ image ∷ out ∷ []) = filed_answer program ima
 answer_with Fetch (program ∷ role ∷ state ∷ argument ∷ fuel ∷ mirror ∷ []) = fetched_answer program role state argument fuel mirror
 answer_with Mirror (mirror ∷ port ∷ links ∷ []) = unmirrored_answer mirror port links
 answer_with Draw (program ∷ role ∷ state ∷ argument ∷ fuel ∷ port ∷ []) = undrawn_answer program role state argument fuel port
+answer_with Found (program ∷ image ∷ journal ∷ []) = unfounded_answer program image
+answer_with Host (program ∷ journal ∷ port ∷ links ∷ slice ∷ []) = unhosted_answer program port links slice
+answer_with Replay (program ∷ journal ∷ out ∷ []) = unreplayed_answer program
 answer_with command texts = λ files. None
 
 abbrev pub command_answer : Invocation → Contents → Option Answer

@@ -6,7 +6,7 @@ use Rattle.auth_syntax.specs.Parsing as parsing
 use Rattle.auth_syntax.specs.Syntax.{Program as ProgramSyntax}
 use Rattle.auth_types.specs.CheckedPrograms.{constructors_in}
 use Rattle.command_words.specs.Invocations.{Invocation}
-use Rattle.command_words.specs.declared.command.Command.TheVariants.{Check, Init, Ideal, Step, Shallow, Prove, Verify, Audit, Library, Gen, Serve, Ask, Pieces, Fetch, Mirror, Draw}
+use Rattle.command_words.specs.declared.command.Command.TheVariants.{Check, Init, Ideal, Step, Shallow, Prove, Verify, Audit, Library, Gen, Serve, Ask, Pieces, Fetch, Mirror, Draw, Found, Host, Replay}
 use Rattle.core_terms.specs.Programs.{meaning, types_of}
 use Rattle.core_terms.specs.Projection.{digest_at}
 use Rattle.core_terms.specs.Reading.{BadAt}
@@ -39,7 +39,7 @@ use Rattle.value_store.specs.Nodes.{Node}
 use Rattle.value_store.specs.Standing.{ProverNodes, StandsFor}
 use Rattle.value_store.specs.Stores.{nodes_in, store_lent}
 use Rattle.value_store.specs.declared.node.Ref.{Ref}
-use Rattle.file_commands.specs.Answer.{Answer, Drawing, Mirroring, answer_with, audited_answer, called_answer, callee_of, checked_answer, command_answer, fetched_answer, filed_answer, first_argument, first_role, generated_answer, ideal_answer, initial_answer, input_refused, is_entry, is_get, is_key, is_put, judged_answer, keys_of, library_answer, max_file, max_program, proved_answer, refusal_status, shallow_told, spelled_answer, spelling_stored, state_image, stepped_answer, storing, unasked_answer, undrawn_answer, unmirrored_answer, unserved_answer, usage_answer, verdict_answer, with_drawing, with_drawn, with_ended_init, with_file, with_first, with_fueled_role, with_mirror_file, with_mirroring, with_number, with_role_at, with_role_call, with_source, with_state_read}
+use Rattle.file_commands.specs.Answer.{Answer, Drawing, Founding, Mirroring, answer_with, audited_answer, called_answer, callee_of, checked_answer, command_answer, fetched_answer, filed_answer, first_argument, first_role, first_shared, generated_answer, ideal_answer, initial_answer, input_refused, is_entry, is_get, is_key, is_put, judged_answer, keys_of, library_answer, max_file, max_program, proved_answer, refusal_status, shallow_told, spelled_answer, spelling_stored, state_image, stepped_answer, storing, unasked_answer, undrawn_answer, unfounded_answer, unhosted_answer, unmirrored_answer, unreplayed_answer, unserved_answer, usage_answer, verdict_answer, with_drawing, with_drawn, with_ended_init, with_file, with_first, with_founding, with_fueled_role, with_image, with_image_bytes, with_mirror_file, with_mirroring, with_number, with_program_file, with_role_at, with_role_call, with_source, with_state_read}
 use Rattle.file_commands.specs.CallsInStores.{HoldsCall, HoldsSome}
 use Rattle.file_commands.specs.FueledRoles.{DigestedProgram, FueledRole, NamedProgram}
 use Rattle.file_commands.specs.IdealCalls.{IdealCall}
@@ -162,6 +162,10 @@ module _ (p a b c d e f : List ℕ) (files : Contents) where
   pub on_mirror_links : (answer_with Mirror (p ∷ a ∷ b ∷ []) files ≡ unmirrored_answer p a b files) × (answer_with Draw (p ∷ a ∷ b ∷ c ∷ d ∷ e ∷ []) files ≡ undrawn_answer p a b c d e files)
   on_mirror_links = (refl, refl)
 
+  pub on_journals : (answer_with Found (p ∷ a ∷ b ∷ []) files ≡ unfounded_answer p a files) × (answer_with Host (p ∷ a ∷ b ∷ c ∷ d ∷ []) files ≡ unhosted_answer p b c d files)
+      × (answer_with Replay (p ∷ a ∷ b ∷ []) files ≡ unreplayed_answer p files)
+  on_journals = (refl, refl, refl)
+
   -- no command is called with fewer texts, or with more
   pub no_command : (answer_with Check [] files ≡ None) × (answer_with Check (p ∷ a ∷ []) files ≡ None)
   no_command = (refl, refl)
@@ -191,6 +195,37 @@ module _ (p : NamedProgram) (role state argument fuel : List ℕ) (files : Conte
   pub drawing : (program port : List ℕ) → (with_drawing program role state argument fuel port (λ name. None) go ≡ None)
       × (undrawn_answer program role state argument fuel port files ≡ with_drawing program role state argument fuel port files (λ d. None))
   drawing program port = (refl, refl)
+
+-- ON JOURNALS
+-- the bytes of a file go on where they are an image of the program; there is no answer where the file isn't there
+module _ (p : DigestedProgram) (bytes : List ℕ) (go : List ℕ → Option Answer) where
+  pub image_bytes : (with_image_bytes p (Some bytes) go ≡ (if nat_le (length bytes) 67108864 then with_image p bytes (λ v. go bytes) else Some (input_refused (TooLong named.Image))))
+      × (with_image_bytes p None go ≡ None)
+  image_bytes = (refl, refl)
+
+-- a journal is made of a program and an image, of which the program is judged first
+module _ (program image : List ℕ) (files : Contents) (go : Founding → Option Answer) where
+  pub founded : with_founding program image files go
+      ≡ with_program_file (files program) (λ p. with_image_bytes p.digested (files image) (λ bytes. go (record { program = p.digested; image = bytes })))
+  founded = refl
+
+  pub unfounded : (with_founding program image (λ name. None) go ≡ None) × (unfounded_answer program image files ≡ with_founding program image files (λ f. None))
+  unfounded = (refl, refl)
+
+-- of a journal that is served the program is judged first, and then the numbers
+module _ (program port links slice : List ℕ) (files : Contents) where
+  pub hosted : (unhosted_answer program (codes "0") links slice files ≡ with_program_file (files program) (λ p. Some (input_refused (Number named.Port))))
+      × (unhosted_answer program (codes "4711") (codes "0") slice files ≡ with_program_file (files program) (λ p. Some (input_refused (Number named.Connections))))
+      × (unhosted_answer program (codes "4711") (codes "9") (codes "0") files ≡ with_program_file (files program) (λ p. Some (input_refused (Number named.Slice))))
+      × (unhosted_answer program (codes "4711") (codes "9") (codes "7") files ≡ with_program_file (files program) (λ p. None))
+  hosted = (refl, refl, refl, refl)
+
+  pub replayed : unreplayed_answer program files ≡ with_program_file (files program) (λ p. None)
+  replayed = refl
+
+-- without a journal serving begins with the state of the image, and no commit
+pub first_versions : (v : Value) → ((first_shared v).versions ≡ v ∷ []) × ((first_shared v).commits ≡ [])
+first_versions v = (refl, refl)
 
 -- PROGRAMS
 module _ {A : Type 0} (means : A → tree.Program) (found : TextProgram) (p : A) (kind : ProgramKind) (line column : ℕ) where

@@ -1,11 +1,11 @@
 -- The statuses that a command may answer, whatever the files hold.
 use Rattle.std.specs.Prelude.{◌≡◌}
 use Rattle.command_words.specs.declared.command.Command.{Command}
-use Rattle.command_words.specs.declared.command.Command.TheVariants.{Check, Shallow, Verify, Audit, Library, Gen, Serve, Ask, Pieces, Fetch, Mirror, Draw}
+use Rattle.command_words.specs.declared.command.Command.TheVariants.{Check, Shallow, Verify, Audit, Library, Gen, Serve, Ask, Pieces, Fetch, Mirror, Draw, Found, Host, Replay}
 use Rattle.file_commands.specs.declared.status.Status.{Status}
 use Rattle.file_commands.specs.declared.status.Status.TheVariants.{Usage, Trap, OutOfFuel, Rejected, ProgramRefused, ReadFault, Collision}
 
--- the command answers by the outcome of a function, which may trap or find no fuel
+-- the command tells the outcome of a function, which may be a trap or the want of fuel
 abbrev pub RunsAFunction : Command → Type 0
 RunsAFunction Check = ⊥
 RunsAFunction Shallow = ⊥
@@ -14,6 +14,9 @@ RunsAFunction Serve = ⊥
 RunsAFunction Ask = ⊥
 RunsAFunction Pieces = ⊥
 RunsAFunction Mirror = ⊥
+RunsAFunction Found = ⊥
+RunsAFunction Host = ⊥
+RunsAFunction Replay = ⊥
 RunsAFunction command = Unit {0}
 
 -- the command judges a proof, a server's replies or the pieces of a mirror, which it may reject

@@ -46,5 +46,6 @@ pub use roles::{CallWords, CalledRole, Callee, called_role};
 pub use shallow_state::shallow_command;
 pub use status::Status;
 pub use step_state::step_command;
-pub use stored_states::load_image_file;
+pub use stored_states::{load_image_bytes, load_image_file};
+pub use storing::store_and_tell;
 pub use verify_call::verify_command;

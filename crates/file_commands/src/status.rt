@@ -5,7 +5,8 @@ ghost use Rattle.std.specs.Prelude.{◌≡◌};
 #[derive(Clone, Copy)]
 pub enum Status {
     /// The work was done: the outcome has a value, the program is accepted, the text, the state, the sums or the number of pieces were told,
-    /// `serve` or `mirror` served its connections, or `ask` played its script to the end, whatever outcomes came in it.
+    /// `serve`, `host` or `mirror` served its connections, `ask` played its script to the end, whatever outcomes came in it, `found` made a
+    /// journal, or `replay` stored the last version of one.
     Done,
     /// The words call no command.
     Usage,
@@ -18,11 +19,11 @@ pub enum Status {
     /// The text is no program.
     ProgramRefused,
     /// A file is too long, or the image or the mirror that would be stored; or a name of the library, a role, a number, a state, an image, a
-    /// mirror, an argument or a script is refused.
+    /// mirror, a journal, an argument or a script is refused.
     InputRefused,
-    /// A file could not be read; or a read or a send on a link, an `accept`, a `listen` or a `dial` failed.
+    /// A file or a disk could not be read; or a read or a send on a link, an `accept`, a `listen` or a `dial` failed.
     ReadFault,
-    /// The sink failed, or a file could not be stored.
+    /// The sink failed, a file could not be stored, or a disk could not be written.
     WriteFault,
     /// Memory was wanting.
     NoMemory,

@@ -1,13 +1,14 @@
 // Ideal states, from images.
-ghost use Rattle.std.specs.Prelude.{◌≡◌, IfOk};
+ghost use Rattle.std.specs.Prelude.{◌≡◌, ◌≤◌, length, IfOk};
 ghost use Rattle.std.specs.Option.{ForSome};
 ghost use Rattle.core_terms.specs.Programs.{meaning};
 ghost use Rattle.core_terms.specs.Values.{Value};
 ghost use Rattle.file_commands.specs.Reaching.{FaultsAt};
-ghost use Rattle.file_commands.specs.Answer.{with_image, with_image_file};
+ghost use Rattle.file_commands.specs.Answer.{max_file, with_image, with_image_bytes, with_image_file};
 ghost use Rattle.file_commands.specs.Halting.{GoesOnFor, HaltCause, InHand};
 ghost use Rattle.file_commands.specs.ReadPrograms.{digested_of};
 ghost use Rattle.file_commands.specs.StoredStates.{IsStoredState};
+ghost use Rattle.images.specs.Images.{Root, image_of};
 
 use crate::Halt;
 use crate::calls::MAX_FILE;
@@ -36,6 +37,27 @@ pub fn load_image_file<F: Files>(
 {
     let image = load(alloc, files, Argument::Image, name, MAX_FILE)?;
     load_state(alloc, program, &image)
+}
+
+/// The bytes of a file with an image of the program, which is judged.
+pub fn load_image_bytes<F: Files>(
+    alloc: Global,
+    files: &mut F,
+    program: &Program,
+    name: &str,
+) -> Result<Vec<u8>, Halt>
+    ensures goes { ForSome (F.contents files.old) (λ told. GoesOnFor (with_image_bytes (digested_of program.now) (told name.now)) (λ bytes image. bytes.items ≡ image) result) }
+    ensures image { let p = digested_of program.now in IfOk result (λ bytes. (v : Value) × (image_of p.program p.digest bytes.items ≡ Root v)) }
+    ensures fits { IfOk result (λ bytes. length bytes.items ≤ max_file) }
+    ensures asked { FaultsAt name.now (F.asked files.new) result }
+    ensures cause { HaltCause (F.faults files.old) (F.faults files.new) result }
+    ensures contents { F.contents files.new ≡ F.contents files.old }
+    ensures stores { F.stores files.new ≡ F.stores files.old }
+    ensures store_faults { F.store_faults files.new ≡ F.store_faults files.old }
+{
+    let image = load(alloc, files, Argument::Image, name, MAX_FILE)?;
+    load_state(alloc, program, &image)?;
+    Ok(image)
 }
 
 /// The ideal state in an image of the program, over the prover's nodes.

@@ -7,6 +7,7 @@ ghost use Rattle.command_words.specs.Commands.{texts};
 use crate::net::HostNet;
 use auth_cli::run;
 use file_commands::{Halt, tell};
+use host_disk::HostDisk;
 use host_files::{HostFiles, HostSink};
 use std::alloc::AllocError;
 use std::process::{ExitCode, Termination};
@@ -67,7 +68,16 @@ fn run_on<R: Threads + Sync>(threads: &R, rt: &HostRuntime, words: &[&str]) -> R
     let mut files = HostFiles::new(rt);
     let mut out = HostSink::new(rt);
     let mut net = HostNet::new(rt);
-    let status = run(threads, rt.alloc(), words, &mut files, &mut out, &mut net);
+    let mut disk = HostDisk::new(rt);
+    let status = run(
+        threads,
+        rt.alloc(),
+        words,
+        &mut files,
+        &mut out,
+        &mut net,
+        &mut disk,
+    );
     net.end_link();
     RunEnd { status }
 }

@@ -1,4 +1,4 @@
-//! `lamauth COMMAND ARGUMENTS`: the real files, standard output and links of this machine, handed to the top call.
+//! `lamauth COMMAND ARGUMENTS`: the real files, standard output, links and disk of this machine, handed to the top call.
 #![tactic(auto)]
 
 #[cfg(test)]

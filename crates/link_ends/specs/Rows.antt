@@ -8,7 +8,7 @@ use Rattle.link_ends.specs.Ends.{EndCause, LinkCause, ServingCause, is_fault}
 use Rattle.link_ends.specs.Halts.{HaltCause, halt_of}
 use Rattle.link_ends.specs.MoreLinks.{AreMore, Takes, bytes_on}
 use Rattle.link_ends.specs.declared.end.ConnectionEnd.TheVariants as connection
-use Rattle.link_ends.specs.declared.end.ServingEnd.TheVariants.{Served, NoMemory}
+use Rattle.link_ends.specs.declared.end.ServingEnd.TheVariants.{Served, Stopped}
 use Rattle.link_ends.specs.declared.halt.Halt.TheVariants as halt
 
 -- BYTES
@@ -23,36 +23,36 @@ pub takes_none_untold : Takes (1 ∷ []) (1 ∷ []) None → ⊥
 takes_none_untold (rest, all, left) = let e : None ≡ Some rest = left in cc (e)
 
 -- CAUSES
-pub stops : (halt_of write.LinkFault ≡ halt.LinkFault) × (halt_of write.NoMemory ≡ halt.NoMemory)
+pub stops : (halt_of write.LinkFault ≡ halt.LinkFault) × (halt_of write.NoMemory ≡ halt.Stopped)
 stops = (refl, refl)
 
-pub faults : map is_fault (connection.Over ∷ connection.LinkFault ∷ connection.NoMemory ∷ []) ≡ false ∷ true ∷ false ∷ []
+pub faults : map is_fault (connection.Over ∷ connection.LinkFault ∷ connection.Stopped ∷ []) ≡ false ∷ true ∷ false ∷ []
 faults = refl
 
 -- the count rose at a link fault, and nowhere else
 pub causes : (before now : ℕ) → Rose before now → HaltCause {T = Bool} before before (Ok true) × HaltCause {T = Bool} before now (Err halt.LinkFault)
-    × HaltCause {T = Bool} before before (Err halt.NoMemory)
+    × HaltCause {T = Bool} before before (Err halt.Stopped)
 causes before now rose = (refl, rose, refl)
 
-pub halt_causes : (before now : ℕ) → (HaltCause {T = Bool} before now (Err halt.LinkFault) → Rose before now) × (HaltCause {T = Bool} before now (Err halt.NoMemory) → now ≡ before)
+pub halt_causes : (before now : ℕ) → (HaltCause {T = Bool} before now (Err halt.LinkFault) → Rose before now) × (HaltCause {T = Bool} before now (Err halt.Stopped) → now ≡ before)
 halt_causes before now = ((λ c. c), (λ c. c))
 
--- and may have risen where memory was wanting on a connection
+-- and may have risen where a connection was stopped
 pub end_causes : (before now : ℕ) → Rose before now
-    → EndCause before before connection.Over × EndCause before now connection.LinkFault × EndCause before before connection.NoMemory × EndCause before now connection.NoMemory
+    → EndCause before before connection.Over × EndCause before now connection.LinkFault × EndCause before before connection.Stopped × EndCause before now connection.Stopped
 end_causes before now rose = (refl, rose, inl refl, inr rose)
 
 pub link_causes : (before now : ℕ) → (LinkCause before now (Ok true) → Rose before now) × (LinkCause before now (Ok false) → now ≡ before) × (LinkCause before now (Err halt.LinkFault) → now ≡ before)
 link_causes before now = ((λ c. c), (λ c. c), (λ c. c))
 
-pub lack_causes : (before now : ℕ) → Rose before now → LinkCause before before (Err halt.NoMemory) × LinkCause before now (Err halt.NoMemory)
+pub lack_causes : (before now : ℕ) → Rose before now → LinkCause before before (Err halt.Stopped) × LinkCause before now (Err halt.Stopped)
 lack_causes before now rose = (inl refl, inr rose)
 
 -- a fault that is told is of a link or of an accept
 pub fault_causes : (before now : ℕ) → Rose before now → ServingCause before now 0 0 (Served true) × ServingCause 0 0 before now (Served true)
 fault_causes before now rose = (inl rose, inr rose)
 
-pub serving_causes : (f f' a a' : ℕ) → (ServingCause f f' a a' (Served false) → (f' ≡ f) × (a' ≡ a)) × (ServingCause f f' a a' NoMemory → a' ≡ a)
+pub serving_causes : (f f' a a' : ℕ) → (ServingCause f f' a a' (Served false) → (f' ≡ f) × (a' ≡ a)) × (ServingCause f f' a a' Stopped → a' ≡ a)
 serving_causes f f' a a' = ((λ c. c), (λ c. c))
 
 -- LINKS

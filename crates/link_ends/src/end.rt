@@ -7,8 +7,8 @@ pub enum ConnectionEnd {
     Over,
     /// The link failed, and its count of faults rose.
     LinkFault,
-    /// Memory was wanting.
-    NoMemory,
+    /// It could not go on: memory was wanting, or a server's commits could not be kept.
+    Stopped,
 }
 
 /// How the serving of a net ended.
@@ -19,6 +19,6 @@ pub enum ServingEnd {
         /// Whether a link failed, or an accept.
         link_fault: bool,
     },
-    /// Memory was wanting.
-    NoMemory,
+    /// It could not go on: memory was wanting, or a server's commits could not be kept.
+    Stopped,
 }

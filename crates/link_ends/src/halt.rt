@@ -1,6 +1,6 @@
 // Why serving breaks off.
 ghost use Rattle.std.specs.Prelude.{◌≡◌};
-ghost use Rattle.link_ends.specs.declared.halt.Halt.TheVariants.{LinkFault, NoMemory};
+ghost use Rattle.link_ends.specs.declared.halt.Halt.TheVariants.{LinkFault, Stopped};
 
 use lam_outside::Failed;
 use std::alloc::AllocError;
@@ -11,8 +11,8 @@ use wire_form::WriteStop;
 pub enum Halt {
     /// The link failed, or no link was accepted, and the count of faults rose.
     LinkFault,
-    /// Memory was wanting.
-    NoMemory,
+    /// It can't go on: memory was wanting, or a server's commits could not be kept.
+    Stopped,
 }
 
 impl From<Failed> for Halt {
@@ -24,10 +24,10 @@ impl From<Failed> for Halt {
 }
 
 impl From<AllocError> for Halt {
-    ghost from_gives = { λ _ stop. stop ≡ NoMemory };
+    ghost from_gives = { λ _ stop. stop ≡ Stopped };
 
     fn from(_: AllocError) -> Self {
-        Halt::NoMemory
+        Halt::Stopped
     }
 }
 
@@ -39,7 +39,7 @@ impl From<WriteStop> for Halt {
     fn from(stop: WriteStop) -> Self {
         match stop {
             WriteStop::LinkFault => Halt::LinkFault,
-            WriteStop::NoMemory => Halt::NoMemory,
+            WriteStop::NoMemory => Halt::Stopped,
         }
     }
 }

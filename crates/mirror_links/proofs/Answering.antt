@@ -77,8 +77,8 @@ module _ (get : List ℕ → Got) where
 
   unread_breaks : (bytes : List ℕ) (left' sent sent' : Option (List ℕ)) (stop : Halt) → sent' ≡ sent → AsksNext bytes left' (Err stop) → BreaksOff get bytes left' sent sent'
   unread_breaks bytes left' sent sent' halt.LinkFault same asks = none_breaks bytes left' sent sent' asks.0 asks.1 asks.2 same
-  unread_breaks bytes left' sent sent' halt.NoMemory same (taken, takes, inl nothing) = none_breaks bytes left' sent sent' taken takes nothing same
-  unread_breaks bytes left' sent sent' halt.NoMemory same (taken, takes, inr (digest, asked)) =
+  unread_breaks bytes left' sent sent' halt.Stopped same (taken, takes, inl nothing) = none_breaks bytes left' sent sent' taken takes nothing same
+  unread_breaks bytes left' sent sent' halt.Stopped same (taken, takes, inr (digest, asked)) =
       one_breaks bytes left' sent sent' taken digest 0 takes asked (omega arith) (same ∙ sym (append_none sent))
 
   -- no message was read

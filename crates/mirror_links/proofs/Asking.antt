@@ -101,6 +101,6 @@ module _ (bytes : List ℕ) (left' : Option (List ℕ)) (stop : ReadStop) where
       let read = subst Reads is reads in (take read.0 bytes, took read.0 bytes left' read.1, short_asks (take read.0 bytes) read.2)
 
   -- memory was wanting
-  pub lacking_next : stop ≡ NoMemory → Reads stop → AsksNext bytes left' (Err halt.NoMemory)
+  pub lacking_next : stop ≡ NoMemory → Reads stop → AsksNext bytes left' (Err halt.Stopped)
   lacking_next is reads =
       let read = subst Reads is reads in (take read.0 bytes, took read.0 bytes left' read.2, at_most_one read.0 bytes read.1)

@@ -90,13 +90,13 @@ module _ (get : List ℕ → Got) (port : ℕ) (links : Option (List Linked)) wh
         are = are_more port links next.before after answered.more next.link answered.are next.all next.at_port;
         number = length-append answered.more (next.link ∷ []) ∙ ap (λ n. n + 1) answered.number;
         answered = all_answered get answered.more next.link faulted fault answered.answered
-            (record { end = whole.end; answered = next.answered; memory = whole.memory; fault = whole.fault });
+            (record { end = whole.end; answered = next.answered; unstopped = whole.unstopped; fault = whole.fault });
       })
 
-  -- Memory was wanting on the next one.
+  -- Answering was stopped on the next one.
   pub link_in_part : (between : Option (List Linked)) (after : List Linked) (faulted : Bool) (count most : ℕ)
       → count < most → ((links' : List Linked) → between ≡ Some links' → AreMoreAnswered get port links links' faulted count)
-      → IsOneAnswered get port between after connection.NoMemory → AreMoreInPart get port links after most
+      → IsOneAnswered get port between after connection.Stopped → AreMoreInPart get port links after most
   link_in_part between after faulted count most fewer so_far next =
       let answered = so_far next.before next.told in
       let size = length-append answered.more (next.link ∷ []) in

@@ -11,7 +11,7 @@ use Rattle.session_meaning.specs.FetchMessages.{answer_bytes, answers_sent, answ
 use Rattle.wire_form.specs.Waits.{WaitsInside}
 use Rattle.wire_form.proofs.Coming.{short_read}
 use Rattle.link_ends.specs.MoreLinks.{Takes, but_last}
-use Rattle.link_ends.specs.declared.end.ConnectionEnd.TheVariants.{Over, LinkFault, NoMemory}
+use Rattle.link_ends.specs.declared.end.ConnectionEnd.TheVariants.{Over, LinkFault, Stopped}
 use Rattle.link_ends.specs.declared.halt.Halt.{Halt}
 use Rattle.link_ends.proofs.Taken.{took}
 use Rattle.mirror_links.specs.Answered.{IsSentPart}
@@ -173,7 +173,7 @@ module _ (get : List ℕ → Got) where
           answered = part_now;
         }
 
-        pub lacking_now : Ends get bytes left'' sent sent'' NoMemory
+        pub lacking_now : Ends get bytes left'' sent sent'' Stopped
         lacking_now = record {
           taken = so_far.taken ++ off.taken;
           out = answers_to get so_far.digests ++ off.out;

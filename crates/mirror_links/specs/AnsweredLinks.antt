@@ -9,7 +9,7 @@ use Rattle.link_ends.specs.MoreLinks.{AreMore, bytes_on}
 use Rattle.link_ends.specs.declared.end.ConnectionEnd.{ConnectionEnd}
 use Rattle.link_ends.specs.declared.end.ConnectionEnd.TheVariants as connection
 use Rattle.link_ends.specs.declared.end.ServingEnd.{ServingEnd}
-use Rattle.link_ends.specs.declared.end.ServingEnd.TheVariants.{Served, NoMemory}
+use Rattle.link_ends.specs.declared.end.ServingEnd.TheVariants.{Served, Stopped}
 use Rattle.mirror_links.specs.Answered.{IsAnswered}
 use Rattle.mirror_links.specs.Prompt.{IsPrompt}
 
@@ -24,7 +24,7 @@ module _ (get : List ℕ → Got) where
   pub record IsAnsweredWhole (link : Linked) (faulted : Bool) : Type 0 where
     pub end : ConnectionEnd
     pub answered : IsAnsweredOn link end
-    pub memory : end ≡ connection.NoMemory → ⊥
+    pub unstopped : end ≡ connection.Stopped → ⊥
     pub fault : faulted ≡ is_fault end
 
   -- so it is on each of these links; whether one of their connections ended in a link fault
@@ -32,14 +32,14 @@ module _ (get : List ℕ → Got) where
   AreAnswered [] faulted = faulted ≡ false
   AreAnswered (link ∷ links) faulted = (first others : Bool) × IsAnsweredWhole link first × AreAnswered links others × (faulted ≡ first || others)
 
-  -- the same of these links, but that memory was wanting on the last one
+  -- the same of these links, but that answering was stopped on the last one
   pub record AreAnsweredInPart (links : List Linked) : Type 0 where
     pub before : List Linked
     pub last : Linked
     pub all : links ≡ before ++ last ∷ []
     pub faulted : Bool
     pub answered : AreAnswered before faulted
-    pub broken : IsAnsweredOn last connection.NoMemory
+    pub broken : IsAnsweredOn last connection.Stopped
 
   -- On a net that listens to a port, where the links are told: there are so many more, and a mirror answered on them.
   pub record AreMoreAnswered (port : ℕ) (links : Option (List Linked)) (after : List Linked) (faulted : Bool) (count : ℕ) : Type 0 where
@@ -48,7 +48,7 @@ module _ (get : List ℕ → Got) where
     pub number : length more ≡ count
     pub answered : AreAnswered more faulted
 
-  -- there are at most so many more, and memory was wanting on the last one
+  -- there are at most so many more, and answering was stopped on the last one
   pub record AreMoreInPart (port : ℕ) (links : Option (List Linked)) (after : List Linked) (most : ℕ) : Type 0 where
     pub more : List Linked
     pub are : AreMore port links after more
@@ -67,4 +67,4 @@ module _ (get : List ℕ → Got) where
   abbrev pub AnswersLinks : (port : ℕ) → (links links' : Option (List Linked)) → (connections accepts accepts' : ℕ) → ServingEnd → Type 0
   AnswersLinks port links links' connections accepts accepts' (Served link_fault) =
       (after : List Linked) → links' ≡ Some after → AreCounted port links after connections link_fault accepts accepts'
-  AnswersLinks port links links' connections accepts accepts' NoMemory = (after : List Linked) → links' ≡ Some after → AreMoreInPart port links after connections
+  AnswersLinks port links links' connections accepts accepts' Stopped = (after : List Linked) → links' ≡ Some after → AreMoreInPart port links after connections

@@ -6,7 +6,7 @@ use Rattle.lam_outside.specs.Links.{Linked}
 use Rattle.ideal_meaning.specs.Fetched.{Got, IsPiece, IsLack}
 use Rattle.session_meaning.specs.FetchMessages.{answers_sent, fetch_bytes, fetches_limit}
 use Rattle.link_ends.specs.MoreLinks.{but_last}
-use Rattle.link_ends.specs.declared.end.ConnectionEnd.TheVariants.{Over, LinkFault, NoMemory}
+use Rattle.link_ends.specs.declared.end.ConnectionEnd.TheVariants.{Over, LinkFault, Stopped}
 use Rattle.mirror_links.specs.Answered.{IsAnswered}
 use Rattle.mirror_links.specs.AnsweredLinks.{AreAnswered, AreAnsweredInPart, AreCounted, IsAnsweredOn}
 use Rattle.mirror_links.specs.Prompt.{IsPrompt}
@@ -57,7 +57,7 @@ front_of_the_last = let least : 9 ≤ 12 = omega arith in let most : 12 ≤ 16 =
 pub whole_last : IsAnswered get both both (found ++ missing) LinkFault
 whole_last = let least : 9 ≤ 16 = omega arith in let most : 16 ≤ 16 = omega arith in (16, least, most, refl)
 
-pub none_of_the_last : IsAnswered get both both found NoMemory
+pub none_of_the_last : IsAnswered get both both found Stopped
 none_of_the_last = let least : 9 ≤ 9 = omega arith in let most : 9 ≤ 16 = omega arith in (9, least, most, refl)
 
 -- the answer before the last is never sent in part
@@ -89,7 +89,7 @@ pub none_ahead : IsPrompt get both (Some []) (record { left = Some both; sent = 
 none_ahead = ([], (both, refl, refl), refl)
 
 -- LINKS
--- on one link all was answered, each before the next read; on another one memory was wanting behind the first answer
+-- on one link all was answered, each before the next read; another one was stopped behind the first answer
 abbrev whole : Linked
 whole = record {
   port = 7;
@@ -105,11 +105,11 @@ broken = record { port = 7; given = both; left = []; sent = found; reads = recor
 pub is_whole : IsAnsweredOn get whole Over
 is_whole = record { answered = refl; prompt = (none_ahead, (answer_was_sent, tt)) }
 
-pub is_broken : IsAnsweredOn get broken NoMemory
+pub is_broken : IsAnsweredOn get broken Stopped
 is_broken = record { answered = none_of_the_last; prompt = (none_ahead, tt) }
 
 pub one_answered : AreAnswered get (whole ∷ []) false
-one_answered = (false, false, record { end = Over; answered = is_whole; memory = λ same. cc (same); fault = refl }, refl, refl)
+one_answered = (false, false, record { end = Over; answered = is_whole; unstopped = λ same. cc (same); fault = refl }, refl, refl)
 
 pub two_in_part : AreAnsweredInPart get (whole ∷ broken ∷ [])
 two_in_part = record { before = whole ∷ []; last = broken; all = refl; faulted = false; answered = one_answered; broken = is_broken }

@@ -29,7 +29,7 @@ abbrev pub AsksNext : (bytes : List ℕ) (left' : Option (List ℕ)) → Result 
 AsksNext bytes left' (Ok (Some digest)) = (taken : List ℕ) × Takes bytes taken left' × IsAskedBy taken digest.0
 AsksNext bytes left' (Ok None) = (taken : List ℕ) × Takes bytes taken left' × AsksNothing bytes
 AsksNext bytes left' (Err halt.LinkFault) = (taken : List ℕ) × Takes bytes taken left' × AsksNothing taken
-AsksNext bytes left' (Err halt.NoMemory) =
+AsksNext bytes left' (Err halt.Stopped) =
     (taken : List ℕ) × Takes bytes taken left' × (AsksNothing taken ⊎ ((digest : List ℕ) × IsAskedBy taken digest))
 
 -- all of these bytes were sent, or a front of them
@@ -81,11 +81,11 @@ module _ (get : List ℕ → Got) where
   pub record IsOneWhole (port : ℕ) (links : Option (List Linked)) (after : List Linked) (faulted : Bool) : Type 0 where
     pub end : ConnectionEnd
     pub one : IsOneAnswered port links after end
-    pub memory : end ≡ connection.NoMemory → ⊥
+    pub unstopped : end ≡ connection.Stopped → ⊥
     pub fault : faulted ≡ is_fault end
 
   -- so it is at an accepted link; where none was, the links are the same
   abbrev pub AnswersNext : (port : ℕ) → (links links' : Option (List Linked)) → Result Bool Halt → Type 0
   AnswersNext port links links' (Ok faulted) = (after : List Linked) → links' ≡ Some after → IsOneWhole port links after faulted
   AnswersNext port links links' (Err halt.LinkFault) = links' ≡ links
-  AnswersNext port links links' (Err halt.NoMemory) = (after : List Linked) → links' ≡ Some after → IsOneAnswered port links after connection.NoMemory
+  AnswersNext port links links' (Err halt.Stopped) = (after : List Linked) → links' ≡ Some after → IsOneAnswered port links after connection.Stopped

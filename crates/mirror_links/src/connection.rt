@@ -46,7 +46,7 @@ pub fn answer_link<H: Hash32, L: Link>(
             Ok(true) => {}
             Ok(false) => return ConnectionEnd::Over,
             Err(Halt::LinkFault) => return ConnectionEnd::LinkFault,
-            Err(Halt::NoMemory) => return ConnectionEnd::NoMemory,
+            Err(Halt::Stopped) => return ConnectionEnd::Stopped,
         }
     }
     ConnectionEnd::Over
@@ -90,7 +90,7 @@ fn next_asked<L: Link>(alloc: Global, link: &mut L) -> Result<Option<Digest>, Ha
         Err(ReadStop::End) => Ok(None),
         Err(ReadStop::Cut) => Ok(None),
         Err(ReadStop::LinkFault) => Err(Halt::LinkFault),
-        Err(ReadStop::NoMemory) => Err(Halt::NoMemory),
+        Err(ReadStop::NoMemory) => Err(Halt::Stopped),
     }
 }
 

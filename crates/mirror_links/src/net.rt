@@ -44,7 +44,7 @@ pub fn answer_links<H: Hash32, N: Net>(
                 }
             }
             Err(Halt::LinkFault) => return ServingEnd::Served { link_fault: true },
-            Err(Halt::NoMemory) => return ServingEnd::NoMemory,
+            Err(Halt::Stopped) => return ServingEnd::Stopped,
         }
     }
     ServingEnd::Served { link_fault }
@@ -52,7 +52,7 @@ pub fn answer_links<H: Hash32, N: Net>(
 
 /// Accepts the next link, and answers on it. Whether it ended in a link fault.
 ///
-/// `LinkFault` where the accept failed: its count of faults rose, and nothing else changed. `NoMemory` where memory was wanting.
+/// `LinkFault` where the accept failed: its count of faults rose, and nothing else changed. `Stopped` where memory was wanting.
 fn answer_next<H: Hash32, N: Net>(
     alloc: Global,
     mirror: &Mirror<H>,
@@ -71,6 +71,6 @@ fn answer_next<H: Hash32, N: Net>(
     match answer_link(alloc, mirror, net) {
         ConnectionEnd::Over => Ok(false),
         ConnectionEnd::LinkFault => Ok(true),
-        ConnectionEnd::NoMemory => Err(Halt::NoMemory),
+        ConnectionEnd::Stopped => Err(Halt::Stopped),
     }
 }

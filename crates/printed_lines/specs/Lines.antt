@@ -27,7 +27,9 @@ use Rattle.printed_lines.specs.declared.refusal.Argument.TheVariants as argument
 use Rattle.printed_lines.specs.declared.refusal.ImageKind.{ImageKind}
 use Rattle.printed_lines.specs.declared.refusal.ImageKind.TheVariants as image
 use Rattle.printed_lines.specs.declared.refusal.InputFault.{InputFault}
-use Rattle.printed_lines.specs.declared.refusal.InputFault.TheVariants.{TooLong, LibraryUnknown, RoleUnknown, RoleKind, Number, State, Literal, Image, Mirror, Script}
+use Rattle.printed_lines.specs.declared.refusal.InputFault.TheVariants.{TooLong, LibraryUnknown, RoleUnknown, RoleKind, Number, State, Literal, Image, Mirror, Journal, Script}
+use Rattle.printed_lines.specs.declared.refusal.JournalKind.{JournalKind}
+use Rattle.printed_lines.specs.declared.refusal.JournalKind.TheVariants as journal
 use Rattle.printed_lines.specs.declared.refusal.MirrorKind.{MirrorKind}
 use Rattle.printed_lines.specs.declared.refusal.MirrorKind.TheVariants as mirror
 use Rattle.printed_lines.specs.declared.refusal.Refusal.{Refusal}
@@ -127,6 +129,15 @@ mirror_text (mirror.Cut bytes) = codes "mirror cut" ++ also bytes
 mirror_text (mirror.BadField offset) = codes "mirror field" ++ also offset
 mirror_text (mirror.Leftover bytes) = codes "mirror leftover" ++ also bytes
 
+-- why a journal is refused
+abbrev pub journal_text : JournalKind → List ℕ
+journal_text journal.NotEmpty = codes "journal not empty"
+journal_text journal.Magic = codes "journal magic"
+journal_text (journal.Cut bytes) = codes "journal cut" ++ also bytes
+journal_text journal.OtherProgram = codes "journal program"
+journal_text (journal.BadRecord number) = codes "journal record" ++ also number
+journal_text (journal.Image kind) = codes "journal" ++ word (image_text kind)
+
 -- why an input is refused
 abbrev pub input_text : InputFault → List ℕ
 input_text (TooLong argument) = codes "too long" ++ word (argument_name argument)
@@ -138,6 +149,7 @@ input_text (State offset) = codes "state" ++ also offset
 input_text (Literal kind offset) = codes "argument" ++ (word (literal_name kind) ++ also offset)
 input_text (Image kind) = image_text kind
 input_text (Mirror kind) = mirror_text kind
+input_text (Journal kind) = journal_text kind
 input_text (Script line) = codes "script" ++ also line
 
 -- that a frame names a kept piece which isn't there

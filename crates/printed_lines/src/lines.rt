@@ -10,7 +10,7 @@ ghost use Rattle.ideal_meaning.specs.Told.{trap_told};
 ghost use Rattle.printed_lines.specs.Lines as def;
 
 use crate::names::{argument_name, literal_name, program_name};
-use crate::refusal::{ImageKind, InputFault, MirrorKind, ProgramKind, Refusal};
+use crate::refusal::{ImageKind, InputFault, JournalKind, MirrorKind, ProgramKind, Refusal};
 use crate::rejections::rejection_line;
 use core_terms::{Digest, Program, Trap, TyId};
 use printed_syntax::printing::print_value;
@@ -67,6 +67,7 @@ fn input_text(alloc: Global, fault: InputFault) -> Result<String, AllocError>
         }
         InputFault::Image(kind) => image_text(alloc, kind),
         InputFault::Mirror(kind) => mirror_text(alloc, kind),
+        InputFault::Journal(kind) => journal_text(alloc, kind),
         InputFault::Script(line) => format!(in alloc; "script {line}"),
     }
 }
@@ -95,6 +96,23 @@ fn mirror_text(alloc: Global, kind: MirrorKind) -> Result<String, AllocError>
         MirrorKind::Cut(bytes) => format!(in alloc; "mirror cut {bytes}"),
         MirrorKind::BadField(offset) => format!(in alloc; "mirror field {offset}"),
         MirrorKind::Leftover(bytes) => format!(in alloc; "mirror leftover {bytes}"),
+    }
+}
+
+/// Why a journal is refused.
+fn journal_text(alloc: Global, kind: JournalKind) -> Result<String, AllocError>
+    ensures { IfOk result (λ text. string_bytes text ≡ def.journal_text kind) }
+{
+    match kind {
+        JournalKind::NotEmpty => format!(in alloc; "journal not empty"),
+        JournalKind::Magic => format!(in alloc; "journal magic"),
+        JournalKind::Cut(bytes) => format!(in alloc; "journal cut {bytes}"),
+        JournalKind::OtherProgram => format!(in alloc; "journal program"),
+        JournalKind::BadRecord(number) => format!(in alloc; "journal record {number}"),
+        JournalKind::Image(kind) => {
+            let kind = image_text(alloc, kind)?;
+            format!(in alloc; "journal {kind}")
+        }
     }
 }
 

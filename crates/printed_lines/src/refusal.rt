@@ -78,6 +78,23 @@ pub enum MirrorKind {
     Leftover(u32),
 }
 
+/// Why a journal is refused: the first fault. Records are numbered from 0.
+#[derive(Clone, Copy)]
+pub enum JournalKind {
+    /// A journal is to be made, and the file has bytes.
+    NotEmpty,
+    /// The bytes don't begin as a journal.
+    Magic,
+    /// They end inside a later part: how many they are.
+    Cut(u64),
+    /// The journal is one of another program.
+    OtherProgram,
+    /// The record with this number is not allowed.
+    BadRecord(u32),
+    /// The image's bytes are none of the program.
+    Image(ImageKind),
+}
+
 /// Why an input is refused.
 #[derive(Clone, Copy)]
 pub enum InputFault {
@@ -99,6 +116,8 @@ pub enum InputFault {
     Image(ImageKind),
     /// The bytes are no mirror.
     Mirror(MirrorKind),
+    /// The file is no journal of the program, or not one that can be made.
+    Journal(JournalKind),
     /// A line of the script asks for no step: the number of the first one, from 1.
     Script(usize),
 }

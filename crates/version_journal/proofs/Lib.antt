@@ -1,5 +1,5 @@
 -- Torn files, and what stays of them behind a closed gate; writes that are synced; an append, call by call; files that are read part by part; journals
--- that are read back; what survives.
+-- that are read back; what survives; commits that are kept; what a server may begin with.
 mod Tearing
 mod ClosedGates
 mod WritingThrough
@@ -13,4 +13,7 @@ mod Kept
 mod Stepping
 mod MadeAgain
 mod Reopening
+mod BegunVersions
+pub mod ServedBack
 mod OpenedFiles
+mod KeptCommits

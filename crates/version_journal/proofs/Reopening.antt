@@ -1,6 +1,7 @@
 -- A journal that is read, record by record.
 use Rattle.std.specs.Prelude.{IsErrAnd}
 use Rattle.std.specs.Int.{w16, w32, w64, to_be_bytes}
+use Rattle.std.specs.List.{AllByRecursion}
 use Rattle.std.proofs.Common.{⊎_elim, ◌≡◌, ℕ, zero, suc, ◌+◌, ◌-◌, ◌<◌, ◌≤◌, ◌^◌, List, [], ◌∷◌, ◌++◌, length, Option, Some, None, Result, Ok, Err, refl, sym, ap, ◌∙◌, subst, arith, append_assoc, length-append}
 use Rattle.std.proofs.lemmas.List.{append-nil}
 use Rattle.core_terms.specs.Formats.{Hash}
@@ -15,6 +16,8 @@ use Rattle.images.specs.declared.fault.ImageFault.TheVariants as coded
 use Rattle.session_meaning.specs.Calls.{RoleCall}
 use Rattle.session_meaning.specs.Server as meant
 use Rattle.session_meaning.specs.Server.{version_at}
+use Rattle.session_meaning.specs.Within.{IsCallWithin}
+use Rattle.session_meaning.proofs.FineServer.{all_more}
 use Rattle.session_turns.specs.Sharing.{Shares}
 use Rattle.session_turns.specs.declared.shared.Shared.{Shared}
 use Rattle.version_journal.specs.JournalParts.{IsAtGate, IsHead, TellsPart, front_bytes}
@@ -156,6 +159,7 @@ module _ (hash : Hash) (P : Program) (own bytes : List ℕ) where
     pub image_fits : length image < 2 ^ 32
     pub versions : same.versions ≡ first ∷ made
     pub written : AreWritable P first same.commits made
+    pub asked : AllByRecursion (IsCallWithin P) same.commits
     pub is_image : image_of P own image ≡ Root first
     pub shares : Shares hash P shared same
     pub counted : length same.versions ≡ suc (length same.commits)
@@ -176,6 +180,7 @@ module _ (hash : Hash) (P : Program) (own bytes : List ℕ) where
     image_fits = h.2;
     versions = refl;
     written = tt;
+    asked = tt;
     is_image = is.1;
     shares = is.2;
     counted = refl;
@@ -211,8 +216,9 @@ module _ (hash : Hash) (P : Program) (own bytes : List ℕ) where
           written =
               writable_more P h.first same.commits h.made call w h.written
               (subst (λ (l : List Value). IsWritable P (version_at l (length same.commits)) call w) h.versions r.3);
+          asked = all_more (IsCallWithin P) same.commits (call ∷ []) h.asked (r.5, tt);
           is_image = h.is_image;
-          shares = r.5;
+          shares = r.6;
           counted = omega (arith, versions, commits, h.counted);
           number = omega (arith, commits, h.number);
           goes_on = λ more e.
@@ -240,6 +246,7 @@ module _ (hash : Hash) (P : Program) (own bytes : List ℕ) where
           image_fits = h.image_fits;
           versions = h.versions;
           written = h.written;
+          asked = h.asked;
           is_image = h.is_image;
           holds = sym (h.goes_on (records_limit - n) (omega (arith, few))) ∙ closed_holds P (length bytes) (records_limit - n) h.same.versions h.same.commits rest at;
           shares = h.shares;

@@ -12,3 +12,5 @@ pub mod Keeping
 pub mod Replays
 pub mod Openings
 pub mod Appended
+pub mod FoundJournals
+pub mod FoundRows

@@ -1,5 +1,6 @@
 -- What a journal that is opened gives, and its fault.
-use Rattle.std.specs.Prelude.{◌≡◌, ◌⊎◌, ℕ, ◌<◌, ◌^◌, List, [], ◌∷◌, length, Result, Ok, Err, ⊤}
+use Rattle.std.specs.Prelude.{◌≡◌, ℕ, ◌<◌, ◌^◌, List, [], ◌∷◌, length, Result, Ok, Err, ⊤}
+use Rattle.std.specs.List.{AllByRecursion}
 use Rattle.core_terms.specs.Formats.{Hash}
 use Rattle.core_terms.specs.Terms.{Program}
 use Rattle.core_terms.specs.Values.{Value}
@@ -9,7 +10,9 @@ use Rattle.images.specs.Loads.{TellsFault}
 use Rattle.images.specs.declared.fault.ImageFault.{ImageFault}
 use Rattle.images.specs.declared.fault.ImageFault.TheVariants.{NoMemory as NoImageMemory}
 use Rattle.lam_outside.specs.Disks.{DiskFile, Moments, settled}
+use Rattle.session_meaning.specs.Begun.{IsBegun}
 use Rattle.session_meaning.specs.Server as shared
+use Rattle.session_meaning.specs.Within.{IsCallWithin}
 use Rattle.session_turns.specs.Sharing.{Shares}
 use Rattle.session_turns.specs.declared.shared.Shared.{Shared}
 use Rattle.version_journal.specs.AtGates.{IsAt}
@@ -17,8 +20,9 @@ use Rattle.version_journal.specs.Gates.{AtLast, IsKept}
 use Rattle.version_journal.specs.Journals.{Faulty, Holds, Journal, NoImage, SpellsJournal, journal_front, journal_of}
 use Rattle.version_journal.specs.JournalLaws.{AreWritable}
 use Rattle.version_journal.specs.Journals as meant
+use Rattle.version_journal.specs.declared.fault.DiskCount.TheVariants.{Writes}
 use Rattle.version_journal.specs.declared.fault.JournalFault.{JournalFault}
-use Rattle.version_journal.specs.declared.fault.JournalFault.TheVariants.{Magic, Cut, OtherProgram, Image, BadRecord, DiskFault, NoMemory}
+use Rattle.version_journal.specs.declared.fault.JournalFault.TheVariants.{NotEmpty, Magic, Cut, OtherProgram, Image, BadRecord, DiskFault, Failed, NoMemory}
 use Rattle.version_journal.specs.declared.opening.Opened.{Opened}
 use Rattle.version_journal.specs.declared.opening.Opening.{Opening}
 
@@ -48,13 +52,20 @@ TellsJournal journal (BadRecord number) = journal ≡ Faulty (meant.BadRecord nu
 TellsJournal journal NoMemory = ⊤
 TellsJournal journal fault = ⊥
 
+-- a fault that opening a journal may answer, whatever the disk tells
+abbrev pub MayNotOpen : JournalFault → Type 0
+MayNotOpen NotEmpty = ⊥
+MayNotOpen Failed = ⊥
+MayNotOpen fault = ⊤
+
 module _ (hash : Hash) (P : Program) (own : List ℕ) where
   -- The image's value is shared, as the only version, without commits; or the image has this fault.
   abbrev pub IsFirst : (image : List ℕ) → Result Shared JournalFault → Type 0
   IsFirst image (Ok first) = (v : Value) × (image_of P own image ≡ Root v) × Shares hash P first (shared.new_server v).shared
   IsFirst image (Err fault) = RefusesSo (λ f. image_of P own image ≡ Refused f) fault
 
-  -- The bytes hold these versions and commits, which are shared; the commits are calls that may be written, and make these versions; and the gate behind the commits' records is closed.
+  -- The bytes hold these versions and commits, which are shared; the commits are calls that may be written and that a message may ask for, and make
+  -- these versions; and the gate behind the commits' records is closed.
   pub record Opens (bytes : List ℕ) (opening : Opening) : Type 0 where
     pub image : List ℕ
     pub first : Value
@@ -64,6 +75,7 @@ module _ (hash : Hash) (P : Program) (own : List ℕ) where
     pub image_fits : length image < 2 ^ 32
     pub versions : same.versions ≡ first ∷ made
     pub written : AreWritable P first same.commits made
+    pub asked : AllByRecursion (IsCallWithin P) same.commits
     pub holds : journal_of P own bytes ≡ Holds same.versions same.commits
     pub shares : Shares hash P opening.shared same
     pub spells : SpellsJournal own image same.commits bytes
@@ -75,7 +87,8 @@ module _ (hash : Hash) (P : Program) (own : List ℕ) where
   IsOpening bytes (Ok opening) = Opens bytes opening
   IsOpening bytes (Err fault) = TellsJournal (journal_of P own bytes) fault
 
-  -- Versions and commits are shared, the first of an image and the others as the commits make them; and the journal stands behind them.
+  -- Versions and commits are shared, the first of an image and the others as the commits make them, with which a server may begin; and the journal
+  -- stands behind them.
   pub record Stands (opened : Opened) : Type 0 where
     pub image : List ℕ
     pub first : Value
@@ -85,6 +98,7 @@ module _ (hash : Hash) (P : Program) (own : List ℕ) where
     pub image_fits : length image < 2 ^ 32
     pub versions : same.versions ≡ first ∷ made
     pub written : AreWritable P first same.commits made
+    pub begun : IsBegun P same
     pub shares : Shares hash P opened.shared same
     pub at : IsAt own image same.commits opened.journal
 
@@ -97,7 +111,7 @@ module _ (hash : Hash) (P : Program) (own : List ℕ) where
   -- So it is at the last moment; or the file has this fault, or the disk failed, or memory was wanting.
   abbrev pub OpensTo : (new : Moments) → Result Opened JournalFault → Type 0
   OpensTo new (Ok opened) = AtLast (IsOpened opened) new
-  OpensTo new (Err DiskFault) = ⊤
+  OpensTo new (Err (DiskFault count)) = ⊤
   OpensTo new (Err fault) = AtLast (λ file. TellsJournal (journal_of P own file.reads) fault) new
 
 -- the file was synced, and nothing else was done to it
@@ -105,7 +119,7 @@ abbrev pub IsSynced : (old new : Moments) → Type 0
 IsSynced [] new = ⊥
 IsSynced (file ∷ past) new = new ≡ settled file.reads ∷ file ∷ past
 
--- So it is, whatever is answered, but where the sync failed: then nothing was done, and no read failed.
-abbrev pub OnlySynced : (old new : Moments) (reads reads' : ℕ) → Result Opened JournalFault → Type 0
-OnlySynced old new reads reads' (Err DiskFault) = IsSynced old new ⊎ ((new ≡ old) × (reads' ≡ reads))
-OnlySynced old new reads reads' result = IsSynced old new
+-- So it is, whatever is answered, but where the sync failed: then nothing was done.
+abbrev pub OnlySynced : (old new : Moments) → Result Opened JournalFault → Type 0
+OnlySynced old new (Err (DiskFault Writes)) = new ≡ old
+OnlySynced old new result = IsSynced old new

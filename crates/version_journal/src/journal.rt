@@ -1,5 +1,5 @@
 // A journal on a disk.
-ghost use Rattle.std.specs.Prelude.{◌≡◌, ◌≤◌, ◌<◌, ◌+◌, ◌*◌, ◌^◌, ◌++◌, [], ◌∷◌, ℕ, List, length, true, Err, IfErr, IfOk, IfSome, OnOk};
+ghost use Rattle.std.specs.Prelude.{◌≡◌, ◌≤◌, ◌<◌, ◌+◌, ◌*◌, ◌^◌, ◌++◌, [], ◌∷◌, ℕ, List, length, true, Err, IfErr, IfOk, IfSome, OnErr, OnOk};
 ghost use Rattle.session_meaning.specs.Calls.{RoleCall};
 ghost use Rattle.session_turns.specs.Sharing.{IsCommit};
 ghost use Rattle.version_journal.specs.Gates.{Appends, AtLast, ForTold, IsKept};
@@ -57,8 +57,10 @@ impl Journal {
         ensures at { (own image : List ℕ) (calls : List RoleCall) (call : RoleCall) → IsAt own image calls self.old → IsCommit commit.now call
             → OnOk result (IsAt own image (calls ++ call ∷ []) self.new) }
         ensures count { OnOk result (self.new.records ≡ self.old.records + 1) }
-        ensures failed { self.old.failed ≡ true → (result ≡ Err Failed) × (disk.new ≡ disk.old) }
+        ensures stays { OnErr result (self.new.records ≡ self.old.records) }
+        ensures failed { self.old.failed ≡ true → (result ≡ Err Failed) × (self.new ≡ self.old) × (disk.new ≡ disk.old) }
         ensures breaks { FailsSo self.old.failed self.new.failed result }
+        ensures reads { D.read_faults disk.new ≡ D.read_faults disk.old }
         ensures cause { JournalCause (D.read_faults disk.old) (D.read_faults disk.new) (D.write_faults disk.old) (D.write_faults disk.new) result }
     {
         if self.failed {
@@ -89,6 +91,7 @@ impl Journal {
             → IfOk result (λ gate. gate ≡ length (journal_front own image (calls ++ call ∷ []))) }
         ensures fits { IfOk result (λ gate. gate ≤ 2 ^ 63 + (self.now.records + 1) * 2 ^ 30) }
         ensures breaks { IfErr result Breaks }
+        ensures reads { D.read_faults disk.new ≡ D.read_faults disk.old }
         ensures cause { JournalCause (D.read_faults disk.old) (D.read_faults disk.new) (D.write_faults disk.old) (D.write_faults disk.new) result }
     {
         let staged = staged_record(self.alloc, commit)?;

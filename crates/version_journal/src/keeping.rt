@@ -1,19 +1,20 @@
 // Commits that are appended one after another.
-ghost use Rattle.std.specs.Prelude.{◌≡◌, ◌<◌, ◌+◌, ◌≤◌, ◌++◌, ℕ, suc, true, List, length, Err, IfSome, OnErr, OnOk};
+ghost use Rattle.std.specs.Prelude.{◌≡◌, ◌<◌, ◌+◌, ◌≤◌, ◌++◌, ℕ, suc, true, List, length, Err, IfErr, IfSome, OnErr, OnOk};
 ghost use Rattle.std.specs.List.{All};
 ghost use Rattle.core_terms.specs.Terms.{Program};
 ghost use Rattle.core_terms.specs.Values.{Value};
 ghost use Rattle.session_meaning.specs.Calls.{RoleCall};
 ghost use Rattle.session_meaning.specs.Server.{version_at};
+ghost use Rattle.session_turns.specs.Keepers.{FitsRecord};
 ghost use Rattle.session_turns.specs.Rows.{AreAlike};
 ghost use Rattle.session_turns.specs.Sharing.{IsCommit};
 ghost use Rattle.version_journal.specs.Appended.{AreAppended};
-ghost use Rattle.version_journal.specs.AtGates.{IsAt};
+ghost use Rattle.version_journal.specs.AtGates.{IsAt, MayStop};
 ghost use Rattle.version_journal.specs.Gates.{AtLast, ForTold, IsKept};
 ghost use Rattle.version_journal.specs.JournalCauses.{JournalCause};
 ghost use Rattle.version_journal.specs.JournalLaws.{AreWritable};
 ghost use Rattle.version_journal.specs.Journals.{journal_front};
-ghost use Rattle.version_journal.specs.Keeping.{AppendsAll, FitsRecord};
+ghost use Rattle.version_journal.specs.Keeping.{AppendsAll, StopsAt};
 ghost use Rattle.version_journal.specs.declared.fault.JournalFault.TheVariants.{Failed};
 
 use crate::fault::JournalFault;
@@ -41,8 +42,14 @@ pub fn append_all<D: Disk>(
         → ForTold (D.moments disk.old) (D.moments disk.new) (λ old new. AreAppended P own image calls versions news made old new result) }
     ensures at { (own image : List ℕ) (calls news : List RoleCall) → IsAt own image calls journal.old → AreAlike IsCommit commits.now news
         → OnOk result (IsAt own image (calls ++ news) journal.new) }
-    ensures failed { journal.old.failed ≡ true → 0 < length commits.now → (result ≡ Err Failed) × (disk.new ≡ disk.old) }
+    ensures stops { (own image : List ℕ) (calls news : List RoleCall) → IsAt own image calls journal.old → AreAlike IsCommit commits.now news
+        → IfSome (D.moments disk.old) (AtLast (IsKept (journal_front own image calls)))
+        → OnErr result (ForTold (D.moments disk.old) (D.moments disk.new) (StopsAt own image calls news journal.new.records)) }
+    ensures counts { journal.new.records ≤ journal.old.records + length commits.now }
+    ensures failed { journal.old.failed ≡ true → (journal.new ≡ journal.old) × (disk.new ≡ disk.old) × (0 < length commits.now → result ≡ Err Failed) }
     ensures breaks { OnErr result (journal.new.failed ≡ true) }
+    ensures faults { IfErr result MayStop }
+    ensures reads { D.read_faults disk.new ≡ D.read_faults disk.old }
     ensures cause { JournalCause (D.read_faults disk.old) (D.read_faults disk.new) (D.write_faults disk.old) (D.write_faults disk.new) result }
 {
     for commit in commits {

@@ -1,17 +1,17 @@
 // Making a journal.
-ghost use Rattle.std.specs.Prelude.{◌≡◌, ◌<◌, ◌≤◌, ◌^◌, ◌++◌, [], ◌∷◌, false, length, IfOk};
+ghost use Rattle.std.specs.Prelude.{◌≡◌, ◌<◌, ◌≤◌, ◌^◌, ◌++◌, [], ◌∷◌, false, length, IfErr, IfOk};
 ghost use Rattle.code_gen.specs.Programs.{program_in};
-ghost use Rattle.version_journal.specs.AtGates.{IsAt, Makes};
+ghost use Rattle.version_journal.specs.AtGates.{IsAt, Makes, MayNotMake};
 ghost use Rattle.version_journal.specs.Gates.{ForTold};
 ghost use Rattle.version_journal.specs.JournalCauses.{JournalCause};
 ghost use Rattle.version_journal.specs.Journals.{journal_head};
 
-use crate::fault::JournalFault;
+use crate::fault::{DiskCount, JournalFault};
 use crate::gates::write_through;
 use crate::journal::{CLOSED, Journal};
 use code_gen::Code;
 use core_terms::Digest;
-use lam_outside::Disk;
+use lam_outside::{Disk, Failed};
 use std::alloc::{AllocError, Global};
 
 /// The bytes that a journal begins with.
@@ -32,6 +32,7 @@ pub fn make<D: Disk>(
     ensures makes { ForTold (D.moments disk.old) (D.moments disk.new) (λ old new. Makes (program_in code.now).text_digest.0 image.now old new result) }
     ensures at { IfOk result (λ journal. IsAt (program_in code.now).text_digest.0 image.now [] journal) }
     ensures whole { IfOk result (λ journal. journal.failed ≡ false) }
+    ensures possible { IfErr result MayNotMake }
     ensures cause { JournalCause (D.read_faults disk.old) (D.read_faults disk.new) (D.write_faults disk.old) (D.write_faults disk.new) result }
 {
     make_of(alloc, disk, code.program().text_digest(), image)
@@ -48,10 +49,13 @@ fn make_of<D: Disk>(
     ensures makes { ForTold (D.moments disk.old) (D.moments disk.new) (λ old new. Makes digest.now.0 image.now old new result) }
     ensures at { IfOk result (λ journal. IsAt digest.now.0 image.now [] journal) }
     ensures whole { IfOk result (λ journal. journal.failed ≡ false) }
+    ensures possible { IfErr result MayNotMake }
     ensures cause { JournalCause (D.read_faults disk.old) (D.read_faults disk.new) (D.write_faults disk.old) (D.write_faults disk.new) result }
 {
-    if disk.len()? != 0 {
-        return Err(JournalFault::NotEmpty);
+    match disk.len() {
+        Ok(0) => {}
+        Ok(_) => return Err(JournalFault::NotEmpty),
+        Err(Failed) => return Err(JournalFault::DiskFault(DiskCount::Reads)),
     }
     let bytes = first_bytes(alloc, digest, image)?;
     write_through(disk, 0, &bytes)?;

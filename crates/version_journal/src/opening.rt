@@ -1,12 +1,12 @@
 // Opening a journal.
-ghost use Rattle.std.specs.Prelude.{◌≡◌, ◌≤◌, ◌^◌, false, length, IfOk};
+ghost use Rattle.std.specs.Prelude.{◌≡◌, ◌≤◌, ◌^◌, false, length, IfErr, IfOk};
 ghost use Rattle.code_gen.specs.Programs.{program_in};
 ghost use Rattle.mode_vm.specs.Meanings.{program_of};
 ghost use Rattle.version_journal.specs.Gates.{ForTold};
 ghost use Rattle.version_journal.specs.JournalCauses.{JournalCause};
-ghost use Rattle.version_journal.specs.Openings.{IsFirst, IsOpening, OnlySynced, OpensTo, Refuses, Stands};
+ghost use Rattle.version_journal.specs.Openings.{IsFirst, IsOpening, MayNotOpen, OnlySynced, OpensTo, Refuses, Stands};
 
-use crate::fault::JournalFault;
+use crate::fault::{DiskCount, JournalFault};
 use crate::journal::Journal;
 use crate::marking::DigestingMarker;
 use crate::parts::{next_record, read_head};
@@ -46,8 +46,9 @@ pub fn open<H: Hash32, D: Disk>(
 ) -> Result<Opened, JournalFault>
     ensures opens { let P = program_of code.now in let own = (program_in code.now).text_digest.0 in
         ForTold (D.moments disk.old) (D.moments disk.new) (λ old new. OpensTo H.hash P own new result) }
-    ensures synced { ForTold (D.moments disk.old) (D.moments disk.new) (λ old new. OnlySynced old new (D.read_faults disk.old) (D.read_faults disk.new) result) }
+    ensures synced { ForTold (D.moments disk.old) (D.moments disk.new) (λ old new. OnlySynced old new result) }
     ensures stands { IfOk result (λ opened. Stands H.hash (program_of code.now) (program_in code.now).text_digest.0 opened) }
+    ensures possible { IfErr result MayNotOpen }
     ensures few { IfOk result (λ opened. opened.journal.records ≤ 4095) }
     ensures whole { IfOk result (λ opened. opened.journal.failed ≡ false) }
     ensures cause { JournalCause (D.read_faults disk.old) (D.read_faults disk.new) (D.write_faults disk.old) (D.write_faults disk.new) result }
@@ -55,7 +56,7 @@ pub fn open<H: Hash32, D: Disk>(
     disk.sync()?;
     let bytes = match read_whole(alloc, disk) {
         Ok(bytes) => bytes,
-        Err(ReadStop::DiskFault) => return Err(JournalFault::DiskFault),
+        Err(ReadStop::DiskFault) => return Err(JournalFault::DiskFault(DiskCount::Reads)),
         Err(ReadStop::NoMemory) => return Err(JournalFault::NoMemory),
     };
     let opening = read_journal::<H>(alloc, code, &bytes)?;

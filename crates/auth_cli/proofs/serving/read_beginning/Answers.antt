@@ -5,7 +5,7 @@ use Rattle.core_terms.specs.Programs.{meaning}
 use Rattle.core_terms.specs.Values.{Value}
 use Rattle.core_terms.specs.declared.program.Program.{Program}
 use Rattle.file_commands.specs.StoredStates.{IsStoredState}
-use Rattle.file_commands.specs.Answer.{Answer, Serving, serving_of, with_image_file, with_serving_numbers}
+use Rattle.file_commands.specs.Answer.{Answer, Serving, first_shared, serving_of, with_image_file, with_serving_numbers}
 use Rattle.auth_cli.specs.PreparedServers.{BeginsWith, numbers_of, with_beginning}
 use Rattle.file_commands.specs.ReadPrograms.{digested_of}
 use Rattle.file_commands.specs.Reaching.{without}
@@ -20,7 +20,7 @@ returns-in_err-numbers-clause-goes g c = λ told known.
     let words = c.args.words.now in
     let first = with_serving_numbers words.port.now words.connections.now words.slice.now in
     let err = err_from_is_err_and c.from_residual.result c.from_residual.ensures.1 in
-    halts_first_for first (λ numbers go. with_image_file (digested_of p) (told words.image.now) (λ v. go (serving_of (digested_of p) numbers v))) (BeginsWith p) c.from_residual.result _ (cc)
+    halts_first_for first (λ numbers go. with_image_file (digested_of p) (told words.image.now) (λ v. go (serving_of (digested_of p) numbers (first_shared v)))) (BeginsWith p) c.from_residual.result _ (cc)
     (hand_halts first numbers_of _ c.in_err-numbers.ensures.goes)
 
 pub returns-in_err-numbers-clause-reached : goal.returns-in_err-numbers-clause-reached
@@ -57,10 +57,10 @@ returns-clause-goes g c = λ told known.
     let numbers = numbers_of c.in_ok-numbers.numbers in
     let state = subst (λ (q : Program). (v : Value) × ((go : Value → Option Answer) → with_image_file (digested_of q) (told words.image.now) go ≡ go v) × IsStoredState (meaning q) c.in_ok-state.state v)
     c.program.ensures (c.in_ok-state.ensures.goes told known) in (
-      serving_of (digested_of p) numbers state.0,
-      (λ go. c.in_ok-numbers.ensures.goes (λ numbers. with_image_file (digested_of p) (told words.image.now) (λ v. go (serving_of (digested_of p) numbers v)))
-          ∙ state.1 (λ v. go (serving_of (digested_of p) numbers v))),
-      record { stands = state.2; is = refl },
+      serving_of (digested_of p) numbers (first_shared state.0),
+      (λ go. c.in_ok-numbers.ensures.goes (λ numbers. with_image_file (digested_of p) (told words.image.now) (λ v. go (serving_of (digested_of p) numbers (first_shared v))))
+          ∙ state.1 (λ v. go (serving_of (digested_of p) numbers (first_shared v)))),
+      record { state = state.0; stands = state.2; is = refl },
     )
 
 pub returns-clause-stands : goal.returns-clause-stands

@@ -16,30 +16,27 @@ on_links links slice port go = with_number Connections (positive_within most_lin
 
 pub returns-in_err-port-clause-goes : goal.returns-in_err-port-clause-goes
 returns-in_err-port-clause-goes c =
-    let words = c.args.words.now in
     let err = err_from_is_err_and c.from_residual.result c.from_residual.ensures.1 in
-    first_halts (with_number Port (positive_within most_port words.port.now)) (on_links words.connections.now words.slice.now) (λ (n : ℕ). n) numbers_of c.from_residual.result _ (cc)
+    first_halts (with_number Port (positive_within most_port c.args.port.now)) (on_links c.args.connections.now c.args.slice.now) (λ (n : ℕ). n) numbers_of c.from_residual.result _ (cc)
     c.in_err-port.ensures.goes
 
 pub returns-in_err-connections-clause-goes : goal.returns-in_err-connections-clause-goes
 returns-in_err-connections-clause-goes c =
-    let words = c.args.words.now in
     let port = c.in_ok-port.port in
     let result = c.from_residual-in_err-connections.result in
     let err = err_from_is_err_and c.from_residual-in_err-connections.result c.from_residual-in_err-connections.ensures.1 in
-    goes_as (on_links words.connections.now words.slice.now port) (with_serving_numbers words.port.now words.connections.now words.slice.now) numbers_of
-    (λ go. c.in_ok-port.ensures.goes (λ n. on_links words.connections.now words.slice.now n go)) result
-    (first_halts (with_number Connections (positive_within most_links words.connections.now)) (on_slice words.slice.now port) (λ (n : ℕ). n) numbers_of result _ (cc)
+    goes_as (on_links c.args.connections.now c.args.slice.now port) (with_serving_numbers c.args.port.now c.args.connections.now c.args.slice.now) numbers_of
+    (λ go. c.in_ok-port.ensures.goes (λ n. on_links c.args.connections.now c.args.slice.now n go)) result
+    (first_halts (with_number Connections (positive_within most_links c.args.connections.now)) (on_slice c.args.slice.now port) (λ (n : ℕ). n) numbers_of result _ (cc)
     c.in_err-connections.ensures.goes)
 
 pub returns-in_err-slice-clause-goes : goal.returns-in_err-slice-clause-goes
 returns-in_err-slice-clause-goes c =
-    let words = c.args.words.now in
     let port = c.in_ok-port.port in
     let links = c.in_ok-connections.connections in
     let result = c.from_residual-in_err-slice.result in
     let err = err_from_is_err_and c.from_residual-in_err-slice.result c.from_residual-in_err-slice.ensures.1 in
-    goes_as (on_slice words.slice.now port links) (with_serving_numbers words.port.now words.connections.now words.slice.now) numbers_of
-    (λ go. c.in_ok-port.ensures.goes (λ n. on_links words.connections.now words.slice.now n go) ∙ c.in_ok-connections.ensures.goes (λ m. on_slice words.slice.now port m go)) result
-    (first_halts (with_number Slice (positive_within most_slice words.slice.now)) (λ k go. go (record { port = port; links = links; slice = k })) (λ (n : ℕ). n) numbers_of
+    goes_as (on_slice c.args.slice.now port links) (with_serving_numbers c.args.port.now c.args.connections.now c.args.slice.now) numbers_of
+    (λ go. c.in_ok-port.ensures.goes (λ n. on_links c.args.connections.now c.args.slice.now n go) ∙ c.in_ok-connections.ensures.goes (λ m. on_slice c.args.slice.now port m go)) result
+    (first_halts (with_number Slice (positive_within most_slice c.args.slice.now)) (λ k go. go (record { port = port; links = links; slice = k })) (λ (n : ℕ). n) numbers_of
     result _ (cc) c.in_err-slice.ensures.goes)

@@ -34,7 +34,7 @@ returns-in_ok-prepare-in-Ok-clause-goes g c = λ told known.
     let begins = c.in-Ok.ensures.goes told (c.in_ok-code.ensures.contents ∙ known) in (
       begins.0,
       (λ go. c.in_ok-code.ensures.goes told known (λ p. with_beginning p.digested words.image.now words.port.now words.connections.now words.slice.now told go) ∙ begins.1 go),
-      subst (IsPrepared c.in_ok-prepare-in-Ok.field-0.value) (sym begins.2.is) (c.in_ok-prepare-in-Ok.ensures begins.0.state begins.2.stands),
+      subst (IsPrepared c.in_ok-prepare-in-Ok.field-0.value) (sym begins.2.is) (c.in_ok-prepare-in-Ok.ensures begins.2.state begins.2.stands),
     )
 
 pub returns-in_ok-prepare-in-Ok-clause-numbers : goal.returns-in_ok-prepare-in-Ok-clause-numbers

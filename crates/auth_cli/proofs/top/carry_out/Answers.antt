@@ -1,5 +1,5 @@
 use Rattle.command_words.specs.Commands.{texts}
-use Rattle.command_words.specs.declared.command.Command.TheVariants.{Ask, Draw, Mirror, Serve}
+use Rattle.command_words.specs.declared.command.Command.TheVariants.{Ask, Draw, Found, Host, Mirror, Replay, Serve}
 use Rattle.auth_cli.proofs.NetRuns.{online_read}
 use Rattle.auth_cli.proofs.top.carry_out.Goals as goal
 
@@ -14,3 +14,12 @@ returns-in-Mirror-clause-reached g c = online_read c.args.command Mirror (texts 
 
 pub returns-in-Draw-clause-reached : goal.returns-in-Draw-clause-reached
 returns-in-Draw-clause-reached g c = online_read c.args.command Draw (texts c.args.words.now) _ _ _ _ c.draw_command.result c.in-Draw.is c.draw_command.ensures.reached
+
+pub returns-in-Host-clause-reached : goal.returns-in-Host-clause-reached
+returns-in-Host-clause-reached g c = online_read c.args.command Host (texts c.args.words.now) _ _ _ _ c.host_command.result c.in-Host.is c.host_command.ensures.reached
+
+pub returns-in-Found-clause-reached : goal.returns-in-Found-clause-reached
+returns-in-Found-clause-reached g c = online_read c.args.command Found (texts c.args.words.now) _ _ _ _ c.found_command.result c.in-Found.is c.found_command.ensures.reached
+
+pub returns-in-Replay-clause-reached : goal.returns-in-Replay-clause-reached
+returns-in-Replay-clause-reached g c = online_read c.args.command Replay (texts c.args.words.now) _ _ _ _ c.replay_command.result c.in-Replay.is c.replay_command.ensures.reached

@@ -1,25 +1,30 @@
-use Rattle.std.proofs.Common.{Err, Some, refl, subst}
+use Rattle.std.proofs.Common.{Some, refl, subst}
 use Rattle.command_words.specs.Commands.{texts}
-use Rattle.command_words.specs.Invocations.{invocation_of, invoked}
+use Rattle.command_words.specs.Invocations.{invoked}
 use Rattle.file_commands.specs.Answer.{answer, command_answer, usage_answer}
-use Rattle.auth_cli.specs.NetRuns.{IsOffline}
+use Rattle.auth_cli.specs.NetRuns.{CallsNoDisk, CallsNoNet}
 use Rattle.file_commands.specs.declared.report.Halt.TheVariants.{NoMemory, Usage}
 use Rattle.auth_cli.proofs.Called.{memory_told, none_called, none_refused, possible_called, reached_called, usage_told}
-use Rattle.file_commands.proofs.Ends.{ends_as, usage_ends}
-use Rattle.auth_cli.proofs.NetRuns.{reached_by, reached_offline, run_called, run_memory, run_refused}
+use Rattle.file_commands.proofs.Ends.{usage_ends}
+use Rattle.auth_cli.proofs.MemoryRuns.{run_memory}
+use Rattle.auth_cli.proofs.NetRuns.{reached_by, reached_offline, run_called, run_refused}
 use Rattle.file_commands.proofs.Possible.{memory_possible}
 use Rattle.file_commands.proofs.Reached.{refused_reached}
 use Rattle.auth_cli.proofs.top.ended.Goals as goal
 
 pub returns-in-Ok-clause-ends : goal.returns-in-Ok-clause-ends
-returns-in-Ok-clause-ends g c = run_called (texts c.args.words.now) (invoked c.in-Ok.called) _ _ _ _ c.carry_out.result c.in-Ok.ensures.reads c.carry_out.ensures.ends
+returns-in-Ok-clause-ends g c = run_called _ _ _ _ _ _ c.carry_out.result (texts c.args.words.now) (invoked c.in-Ok.called) c.in-Ok.ensures.reads c.carry_out.ensures.ends
 
 pub returns-in-Ok-clause-unused : goal.returns-in-Ok-clause-unused
-returns-in-Ok-clause-unused g c = λ offline. c.carry_out.ensures.unused (subst IsOffline c.in-Ok.ensures.reads offline)
+returns-in-Ok-clause-unused g c = λ none. c.carry_out.ensures.unused (subst CallsNoNet c.in-Ok.ensures.reads none)
+
+pub returns-in-Ok-clause-unused_disk : goal.returns-in-Ok-clause-unused_disk
+returns-in-Ok-clause-unused_disk g c = λ none. c.carry_out.ensures.unused_disk (subst CallsNoDisk c.in-Ok.ensures.reads none)
 
 pub returns-in-Err-Refused-clause-ends : goal.returns-in-Err-Refused-clause-ends
 returns-in-Err-Refused-clause-ends g c =
-    run_refused (texts c.args.words.now) _ _ _ _ c.tell.result (rw c.in-Err-Refused.field-0-is at c.in-Err-Refused.ensures.reads) (usage_ends (λ files. Some usage_answer) _ _ c.tell.result (λ told known. refl) refl refl refl c.tell.ensures) refl
+    run_refused _ _ _ _ _ _ c.tell.result (texts c.args.words.now) (rw c.in-Err-Refused.field-0-is at c.in-Err-Refused.ensures.reads)
+    (usage_ends (λ files. Some usage_answer) _ _ c.tell.result (λ told known. refl) refl refl refl c.tell.ensures) refl refl
 
 pub returns-in-Ok-clause-possible : goal.returns-in-Ok-clause-possible
 returns-in-Ok-clause-possible g c = λ called is. possible_called (texts c.args.words.now) (invoked c.in-Ok.called) called c.in-Ok.ensures.reads is c.carry_out.result c.carry_out.ensures.possible
@@ -35,8 +40,7 @@ returns-in-Err-Refused-clause-refused g c = λ none. usage_told c.tell.result _ 
 
 pub returns-in-Err-NoMemory-clause-ends : goal.returns-in-Err-NoMemory-clause-ends
 returns-in-Err-NoMemory-clause-ends g c =
-    run_memory (invocation_of (texts c.args.words.now)) _ _ _ _ c.tell-in-Err-NoMemory.result
-    (λ answer. ends_as answer _ _ (Err NoMemory) c.tell-in-Err-NoMemory.result (λ told known. tt) refl refl refl c.tell-in-Err-NoMemory.ensures) refl
+    run_memory _ _ _ _ c.tell-in-Err-NoMemory.result (record { reads = refl; stored = refl; stores = refl; told = c.tell-in-Err-NoMemory.ensures }) (texts c.args.words.now)
 
 pub returns-in-Err-NoMemory-clause-possible : goal.returns-in-Err-NoMemory-clause-possible
 returns-in-Err-NoMemory-clause-possible g c = λ called is. memory_possible called.command c.tell-in-Err-NoMemory.result _ _ _ _ c.tell-in-Err-NoMemory.ensures

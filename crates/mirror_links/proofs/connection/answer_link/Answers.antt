@@ -85,19 +85,19 @@ returns-in-Err-LinkFault-clause-prompt g c = λ bytes told.
 pub returns-in-Err-LinkFault-clause-moves : goal.returns-in-Err-LinkFault-clause-moves
 returns-in-Err-LinkFault-clause-moves g c = moves_on _ _ _ _ _ _ c.loop.invariant.moves c.answer_message.ensures.moves
 
-pub returns-in-Err-NoMemory-clause-answered : goal.returns-in-Err-NoMemory-clause-answered
-returns-in-Err-NoMemory-clause-answered g c = λ bytes told.
+pub returns-in-Err-Stopped-clause-answered : goal.returns-in-Err-Stopped-clause-answered
+returns-in-Err-Stopped-clause-answered g c = λ bytes told.
     let get = given_by g.H.Hash32.hash (bytes_of c.args.mirror.now.pieces) in
     let first = c.args.link.now in
     let before = c.loop.link in
     let behind = c.answer_message.new.link in
     let so_far = c.loop.invariant.answered bytes told in
-    let last = answered_at get so_far.takes.0 (g.L.Source.left behind) (g.L.Source.sent before) (g.L.Source.sent behind) (Err c.in-Err-NoMemory.field-0) (Err halt.NoMemory)
-    (ap Err c.in-Err-NoMemory.field-0-is) (c.in-Err-NoMemory.ensures.answered so_far.takes.0 so_far.takes.2) in
+    let last = answered_at get so_far.takes.0 (g.L.Source.left behind) (g.L.Source.sent before) (g.L.Source.sent behind) (Err c.in-Err-Stopped.field-0) (Err halt.Stopped)
+    (ap Err c.in-Err-Stopped.field-0-is) (c.in-Err-Stopped.ensures.answered so_far.takes.0 so_far.takes.2) in
     lacking_now get c.loop.counter bytes (g.L.Source.left before) (g.L.Source.sent first) (g.L.Source.sent before) so_far c.loop-test.true (g.L.Source.left behind) (g.L.Source.sent behind) last
 
-pub returns-in-Err-NoMemory-clause-prompt : goal.returns-in-Err-NoMemory-clause-prompt
-returns-in-Err-NoMemory-clause-prompt g c = λ bytes told.
+pub returns-in-Err-Stopped-clause-prompt : goal.returns-in-Err-Stopped-clause-prompt
+returns-in-Err-Stopped-clause-prompt g c = λ bytes told.
     let get = given_by g.H.Hash32.hash (bytes_of c.args.mirror.now.pieces) in
     let first = c.args.link.now in
     let before = c.loop.link in
@@ -105,8 +105,8 @@ returns-in-Err-NoMemory-clause-prompt g c = λ bytes told.
     waits_more get c.loop.counter bytes (g.L.Source.left before) (g.L.Source.sent first) (g.L.Source.sent before) so_far c.loop-test.true _ _ _ (c.loop.invariant.prompt bytes told)
     (c.answer_message.ensures.waits so_far.takes.0 so_far.takes.2)
 
-pub returns-in-Err-NoMemory-clause-moves : goal.returns-in-Err-NoMemory-clause-moves
-returns-in-Err-NoMemory-clause-moves g c = moves_on _ _ _ _ _ _ c.loop.invariant.moves c.answer_message.ensures.moves
+pub returns-in-Err-Stopped-clause-moves : goal.returns-in-Err-Stopped-clause-moves
+returns-in-Err-Stopped-clause-moves g c = moves_on _ _ _ _ _ _ c.loop.invariant.moves c.answer_message.ensures.moves
 
 pub returns-clause-answered : goal.returns-clause-answered
 returns-clause-answered g c = λ bytes told.

@@ -8,8 +8,8 @@ use Rattle.mirror_links.proofs.Links.{link_in_part, link_more, next_at, no_more}
 use Rattle.mirror_links.proofs.net.answer_links.Goals as goal
 use Rattle.mirror_links.proofs.net.answer_links.Goals.{then-faulted, else-faulted}
 
-pub returns-in-Err-NoMemory-clause-answered : goal.returns-in-Err-NoMemory-clause-answered
-returns-in-Err-NoMemory-clause-answered g c = λ port listening after is.
+pub returns-in-Err-Stopped-clause-answered : goal.returns-in-Err-Stopped-clause-answered
+returns-in-Err-Stopped-clause-answered g c = λ port listening after is.
     let get = given_by g.H.Hash32.hash (bytes_of c.args.mirror.now.pieces) in
     let loop = c.loop.invariant in
     let old = c.args.net.now in
@@ -19,8 +19,8 @@ returns-in-Err-NoMemory-clause-answered g c = λ port listening after is.
     let told_now = links_so_far (g.N.Net.ended now) (g.N.Net.linked now) (g.N.Source.given now) (g.N.Source.left now) (g.N.Source.sent now) (g.N.Source.reads now) in
     let told_new = links_so_far (g.N.Net.ended new) (g.N.Net.linked new) (g.N.Source.given new) (g.N.Source.left new) (g.N.Source.sent new) (g.N.Source.reads new) in
     link_in_part get port told_old told_now after c.loop.link_fault c.loop.counter c.args.connections c.loop-test.true (λ links' are. loop.answered port listening links' are)
-    (next_at get port told_now told_new (Err c.in-Err-NoMemory.field-0) (Err halt.NoMemory) (ap Err c.in-Err-NoMemory.field-0-is)
-    (c.in-Err-NoMemory.ensures.answered port (loop.listened ∙ listening)) after is)
+    (next_at get port told_now told_new (Err c.in-Err-Stopped.field-0) (Err halt.Stopped) (ap Err c.in-Err-Stopped.field-0-is)
+    (c.in-Err-Stopped.ensures.answered port (loop.listened ∙ listening)) after is)
 
 pub returns-in-Err-LinkFault-clause-answered : goal.returns-in-Err-LinkFault-clause-answered
 returns-in-Err-LinkFault-clause-answered g c = λ port listening after is.

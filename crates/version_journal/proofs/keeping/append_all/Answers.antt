@@ -3,7 +3,7 @@ use Rattle.std.proofs.Common.{◌≡◌, ◌++◌, ◌∙◌, ap, arith, get_or,
 use Rattle.core_terms.specs.Values.{UnitV}
 use Rattle.session_meaning.specs.Server.{version_at}
 use Rattle.session_turns.specs.Sharing.{IsCommit}
-use Rattle.version_journal.proofs.Kept.{alike_length, all_kept, at_all, at_more, call_at, ends_err, more_so_far, no_call, stepped}
+use Rattle.version_journal.proofs.Kept.{alike_length, all_kept, at_all, at_more, call_at, ends_err, err_of, more_so_far, no_call, stepped, stops_so}
 use Rattle.version_journal.proofs.Stepping.{all_appended, appended_more, appended_until, as_many, next, stepped as stepped_on}
 use Rattle.version_journal.specs.declared.journal.Journal.{Journal}
 use Rattle.version_journal.proofs.keeping.append_all.Goals as goal
@@ -13,10 +13,23 @@ returns-in_err-append-clause-appends g c own image calls news at alike kept =
     let i = c.loop-commit.commit-index in
     let loop = c.loop-commit.invariant in
     let here = call_at c.args.commits.now news i c.commit-item.result alike (omega (arith, c.loop-commit-test.true)) c.commit-item.is in
-    ends_err own image calls news _ _ i c.append.result c.from_residual.result (g.D.Disk.moments c.args.disk.now) (g.D.Disk.moments c.append.new.disk) c.from_residual.ensures.0
-    (stepped own image calls news c.append.result i (get_or news i no_call) here.1 here.2 (g.D.Disk.moments c.args.disk.now) (g.D.Disk.moments c.loop-commit.disk) (g.D.Disk.moments c.append.new.disk)
+    ends_err own image calls news i (get_or news i no_call) here.1 here.2 c.append.result _ _ c.from_residual.result (g.D.Disk.moments c.args.disk.now) (g.D.Disk.moments c.append.new.disk)
+    c.from_residual.ensures.0
+    (stepped own image calls news i (get_or news i no_call) here.1 here.2 c.append.result (g.D.Disk.moments c.args.disk.now) (g.D.Disk.moments c.loop-commit.disk) (g.D.Disk.moments c.append.new.disk)
     (loop.so_far own image calls news at alike kept)
     (c.append.ensures.appends own image (calls ++ take i news) (get_or news i no_call) (loop.at own image calls news at alike) here.0))
+
+pub returns-in_err-append-clause-stops : goal.returns-in_err-append-clause-stops
+returns-in_err-append-clause-stops g c own image calls news at alike kept =
+    let i = c.loop-commit.commit-index in
+    let loop = c.loop-commit.invariant in
+    let here = call_at c.args.commits.now news i c.commit-item.result alike (omega (arith, c.loop-commit-test.true)) c.commit-item.is in
+    err_of c.from_residual.result _ c.from_residual.ensures.0
+    (stops_so own image calls news i (get_or news i no_call) here.1 here.2 c.append.result c.append.new.self.records (omega (arith, c.in_err-append.ensures.stays, loop.count, at.records))
+    (g.D.Disk.moments c.args.disk.now) (g.D.Disk.moments c.append.new.disk)
+    (stepped own image calls news i (get_or news i no_call) here.1 here.2 c.append.result (g.D.Disk.moments c.args.disk.now) (g.D.Disk.moments c.loop-commit.disk) (g.D.Disk.moments c.append.new.disk)
+    (loop.so_far own image calls news at alike kept)
+    (c.append.ensures.appends own image (calls ++ take i news) (get_or news i no_call) (loop.at own image calls news at alike) here.0)))
 
 pub returns-in_err-append-clause-steps : goal.returns-in_err-append-clause-steps
 returns-in_err-append-clause-steps g c P own image calls news versions made at alike size are kept =
@@ -47,8 +60,8 @@ loop-commit-preserved g c =
           (c.in_ok-append.ensures.at own image (calls ++ take i news) (get_or news i no_call) (loop.at own image calls news at alike) here.0);
       so_far = λ own image calls news at alike kept.
           let here = call_at commits news i c.commit-item.result alike (omega (arith, c.loop-commit-test.true)) c.commit-item.is in
-          more_so_far own image calls news i c.append.result _ (moments c.args.disk.now) (moments c.append.new.disk) c.in_ok-append.was
-          (stepped own image calls news c.append.result i (get_or news i no_call) here.1 here.2 (moments c.args.disk.now) (moments c.loop-commit.disk) (moments c.append.new.disk)
+          more_so_far own image calls news i (get_or news i no_call) here.1 here.2 c.append.result _ (moments c.args.disk.now) (moments c.append.new.disk) c.in_ok-append.was
+          (stepped own image calls news i (get_or news i no_call) here.1 here.2 c.append.result (moments c.args.disk.now) (moments c.loop-commit.disk) (moments c.append.new.disk)
           (loop.so_far own image calls news at alike kept)
           (c.append.ensures.appends own image (calls ++ take i news) (get_or news i no_call) (loop.at own image calls news at alike) here.0));
       steps = λ P own image calls news versions made at alike size are kept.

@@ -1,0 +1,9 @@
+pub mod DisksSeen
+pub mod Stops
+pub mod JournalAnswers
+pub mod Works
+pub mod OpenedJournals
+pub mod DiskCounts
+pub mod Founding
+pub mod Replaying
+pub mod JournalAnswerRows
