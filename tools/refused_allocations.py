@@ -9,7 +9,7 @@ tells how many allocations a run makes, and of how many refusals it answers `no 
 the refusal was of more room than was needed, or of what a run can do without, it may answer what it answers with none refused. Any
 other answer is told, and the status is 1 then.
 
-`serve` and `mirror` have a client, which sends all of its requests and reads to the end; and `ask` and `draw` a server, which sends all of its
+`serve`, `host` and `mirror` have a client, which sends all of its requests and reads to the end; and `ask` and `draw` a server, which sends all of its
 replies.
 What was sent behind a refusal has to be a front of what is sent with none refused, and a stored version one of those that the requests make.
 """
@@ -171,6 +171,15 @@ ASKED = [
 ]
 
 
+# the record of a flip of SWITCH with fuel 1 in a journal, behind an open gate, and the closed gate behind it
+FLIP = b"\1\0\2" + integer(1) + bytes(5)
+
+
+def journal(program, image):
+    """A journal of this image without commits."""
+    return b"LAJ1" + hashlib.sha256(program.encode()).digest() + len(image).to_bytes(4, "big") + image + b"\0"
+
+
 class Refusals:
     """Runs of commands, of which allocations are refused."""
 
@@ -238,7 +247,12 @@ def cases(refusals):
         yield ["serve", "p", "i", "PORT", "1", str(piece), "o"], files_of(refusals, program, literal), ServedClient(requests)
     for program, literal, script, replies in ASKED:
         yield ["ask", "p", "s", "PORT", "t", "o"], files_of(refusals, program, literal, t=script.encode()), AskedServer(replies)
+    for program, literal, piece, requests in SERVED:
+        files = files_of(refusals, program, literal)
+        yield ["host", "p", "j", "PORT", "1", str(piece)], {**files, "j": journal(program, files["i"])}, ServedClient(requests)
     switch = files_of(refusals, SWITCH, "true", q=MIRROR)
+    yield ["found", "p", "i", "j"], {**switch, "j": b""}, None
+    yield ["replay", "p", "j", "o"], {**switch, "j": journal(SWITCH, switch["i"])[:-1] + FLIP}, None
     yield ["mirror", "q", "PORT", "1"], switch, ServedClient(FETCHES)
     for answers in ANSWERS:
         yield ["draw", "p", "both", "s", "()", "1", "PORT"], switch, AskedServer(answers)

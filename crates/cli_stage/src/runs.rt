@@ -1,10 +1,10 @@
-// Runs over files, a sink and a net in memory.
+// Runs over files, a sink, a net and a disk in memory.
 ghost use Rattle.std.specs.Prelude.{◌<◌, ◌-◌, ◌^◌};
 
-use crate::stage::{Stage, files, net, sink, staged};
+use crate::stage::{Stage, disk, files, net, sink, staged};
 use crate::waiting::{Turn, WaitingNet};
 use auth_cli::run;
-use lam_outside::{MemFiles, MemSink, Net};
+use lam_outside::{Disk, MemFiles, MemSink, Net};
 use std::alloc::{AllocError, Global};
 use std::thread::Threads;
 
@@ -123,7 +123,47 @@ pub fn run_waiting<R: Threads + Sync>(
     Ok((run, net.sent().to_vec(alloc)?))
 }
 
-/// The same over this net.
+/// Runs these words behind the program's name over a net and a disk; and what was sent on the net's last link.
+pub fn run_hosting<R: Threads + Sync, D: Disk>(
+    rt: &R,
+    alloc: Global,
+    stage: &Stage,
+    words: &[&str],
+    peers: &Peers,
+    disk: &mut D,
+    writes: Writes,
+) -> Result<(Run, Vec<u8>), AllocError>
+    requires read { 0 < stage.now.most_read }
+    requires written { 0 < writes.0 }
+    requires moved { 0 < peers.now.most }
+    requires disk_reads { D.read_faults disk.old < 2 ^ 64 - 1 }
+    requires disk_writes { D.write_faults disk.old < 2 ^ 64 - 1 }
+{
+    let mut net = net(alloc, peers.bytes, peers.most, peers.failing)?;
+    let run = run_all(rt, alloc, stage, words, &mut net, disk, &[], writes)?;
+    Ok((run, net.sent().to_vec(alloc)?))
+}
+
+/// Runs these words behind the program's name over a disk, where these calls of the files fail.
+pub fn run_on_disk<R: Threads + Sync, D: Disk>(
+    rt: &R,
+    alloc: Global,
+    stage: &Stage,
+    words: &[&str],
+    disk: &mut D,
+    failing: &[u64],
+    writes: Writes,
+) -> Result<Run, AllocError>
+    requires read { 0 < stage.now.most_read }
+    requires written { 0 < writes.0 }
+    requires disk_reads { D.read_faults disk.old < 2 ^ 64 - 1 }
+    requires disk_writes { D.write_faults disk.old < 2 ^ 64 - 1 }
+{
+    let mut net = net(alloc, &[], 1, &[])?;
+    run_all(rt, alloc, stage, words, &mut net, disk, failing, writes)
+}
+
+/// The same over this net, and a disk without files.
 fn run_over<R: Threads + Sync, N: Net>(
     rt: &R,
     alloc: Global,
@@ -140,11 +180,35 @@ fn run_over<R: Threads + Sync, N: Net>(
     requires accepts { N.accept_faults net.old < 2 ^ 64 - 1 }
     requires dials { N.dial_faults net.old < 2 ^ 64 - 1 }
 {
+    let mut disk = disk(alloc, None, &[])?;
+    run_all(rt, alloc, stage, words, net, &mut disk, failing, writes)
+}
+
+/// The same over this net and this disk.
+fn run_all<R: Threads + Sync, N: Net, D: Disk>(
+    rt: &R,
+    alloc: Global,
+    stage: &Stage,
+    words: &[&str],
+    net: &mut N,
+    disk: &mut D,
+    failing: &[u64],
+    writes: Writes,
+) -> Result<Run, AllocError>
+    requires read { 0 < stage.now.most_read }
+    requires written { 0 < writes.0 }
+    requires links { N.faults net.old < 2 ^ 64 - 1 }
+    requires listens { N.listen_faults net.old < 2 ^ 64 - 1 }
+    requires accepts { N.accept_faults net.old < 2 ^ 64 - 1 }
+    requires dials { N.dial_faults net.old < 2 ^ 64 - 1 }
+    requires disk_reads { D.read_faults disk.old < 2 ^ 64 - 1 }
+    requires disk_writes { D.write_faults disk.old < 2 ^ 64 - 1 }
+{
     let (most, failing_writes) = writes;
     let words = with_name(alloc, words)?;
     let mut out = sink(alloc, most, failing_writes)?;
     let mut files = files(alloc, stage, failing)?;
-    let status = run(rt, alloc, &words, &mut files, &mut out, net);
+    let status = run(rt, alloc, &words, &mut files, &mut out, net, disk);
     told(alloc, status, &files, &out)
 }
 

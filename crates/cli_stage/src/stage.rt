@@ -1,9 +1,10 @@
-// Files, a sink and a net in memory, and what lies in the files.
+// Files, a sink, a net and a disk in memory, and what lies in the files.
 ghost use Rattle.std.specs.Prelude.{◌≡◌, ◌<◌, IfOk};
+ghost use Rattle.lam_outside.specs.MemDisks.{disk_read_faults, disk_write_faults};
 ghost use Rattle.lam_outside.specs.MemNets.{net_accept_faults, net_dial_faults, net_faults, net_listen_faults};
 ghost use Rattle.lam_outside.specs.MemTold.{IsFresh, sink_faults};
 
-use lam_outside::{MemFile, MemFiles, MemNet, MemSink, Plan};
+use lam_outside::{MemDisk, MemFile, MemFiles, MemNet, MemSink, Plan};
 use std::alloc::{AllocError, Global};
 
 /// The SHA-256 digest of no bytes: the spelling of the state of `()`.
@@ -87,4 +88,17 @@ pub fn net(
         all.push(Vec::from_slice(alloc, bytes)?)?;
     }
     Ok(MemNet::new(alloc, all, most, plan))
+}
+
+/// A disk with these bytes in the file `j`, where there are some, of which these calls fail.
+pub fn disk(alloc: Global, journal: Option<&[u8]>, failing: &[u64]) -> Result<MemDisk, AllocError>
+    ensures reads { IfOk result (λ disk. disk_read_faults disk ≡ 0) }
+    ensures writes { IfOk result (λ disk. disk_write_faults disk ≡ 0) }
+{
+    let plan = Plan::new(Vec::from_slice(alloc, failing)?);
+    let mut all = Vec::new(alloc);
+    if let Some(bytes) = journal {
+        add(&mut all, alloc, "j", bytes)?;
+    }
+    Ok(MemDisk::new(alloc, all, 4096, plan))
 }

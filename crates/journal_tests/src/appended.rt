@@ -5,7 +5,7 @@ use crate::plain::holding;
 use crate::stage::{ADDED, append, calls, code, commit, disk, journal_bytes, made, sound_disk};
 use lam_outside::Disk;
 use std::test::Fail;
-use version_journal::{JournalFault, append_all};
+use version_journal::{DiskCount, JournalFault, append_all};
 
 #[test]
 fn what_is_appended_stands_byte_by_byte(rt: HostRuntime) -> Result<(), Fail> {
@@ -63,7 +63,7 @@ fn a_journal_that_failed_makes_no_call(rt: HostRuntime) -> Result<(), Fail> {
         return Err(Fail::new(format_args!("not made")));
     };
     let failed = append(alloc, &mut journal, &mut disk, 1);
-    assert!(rt; matches!(failed, Err(JournalFault::DiskFault)));
+    assert!(rt; matches!(failed, Err(JournalFault::DiskFault(DiskCount::Writes))));
     let before = disk.calls().len();
     let again = append(alloc, &mut journal, &mut disk, 1);
     assert!(rt; matches!(again, Err(JournalFault::Failed)));
@@ -78,7 +78,7 @@ fn each_failing_call_of_make_and_open_is_told(rt: HostRuntime) -> Result<(), Fai
     for call in 1..4 {
         let mut failing = disk(alloc, b"", calls(alloc, call, 9)?)?;
         let result = made(alloc, &mut failing, &code);
-        assert!(rt; matches!(result, Err(JournalFault::DiskFault)));
+        assert!(rt; matches!(result, Err(JournalFault::DiskFault(_))));
     }
     let bytes = journal_bytes(alloc, &ADDED)?;
     for call in 1..6 {

@@ -70,7 +70,7 @@ fn told(fault: JournalFault) -> Result<Option<Reading>, AllocError> {
         JournalFault::OtherProgram => Ok(Some(Reading::OtherProgram)),
         JournalFault::Image(_) => Ok(Some(Reading::Image)),
         JournalFault::BadRecord(number) => Ok(Some(Reading::BadRecord(u64::from(number)))),
-        JournalFault::DiskFault | JournalFault::NotEmpty | JournalFault::Failed => Ok(None),
+        JournalFault::DiskFault(_) | JournalFault::NotEmpty | JournalFault::Failed => Ok(None),
         JournalFault::NoMemory => Err(AllocError),
     }
 }

@@ -117,7 +117,7 @@ pub fn appended<D: Disk>(
         let commit = put(alloc, key.wrapping_add(told))?;
         match journal.append(disk, &commit) {
             Ok(()) => {}
-            Err(JournalFault::DiskFault) => return Ok(told),
+            Err(JournalFault::DiskFault(_)) => return Ok(told),
             Err(fault) => return Err(Trouble::Journal(fault)),
         }
     }

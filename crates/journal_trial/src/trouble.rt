@@ -47,7 +47,7 @@ fn fault_text(fault: JournalFault) -> &'static str {
         JournalFault::OtherProgram => "program",
         JournalFault::Image(_) => "image",
         JournalFault::BadRecord(_) => "record",
-        JournalFault::DiskFault => "disk",
+        JournalFault::DiskFault(_) => "disk",
         JournalFault::Failed => "failed",
         JournalFault::NoMemory => "no memory",
     }

@@ -2,7 +2,7 @@
 ghost use Rattle.std.specs.Prelude.{◌≡◌, ℕ, None, refl};
 
 use auth_cli::run;
-use cli_stage::stage::{net, sink};
+use cli_stage::stage::{disk, net, sink};
 use lam_outside::{Failed, Files, Load, Source, load_all};
 use std::test::Fail;
 
@@ -88,8 +88,14 @@ fn an_endless_program_is_too_long(rt: HostRuntime) -> Result<(), Fail> {
     let alloc = rt.alloc();
     let mut out = sink(alloc, 100, &[])?;
     let mut net = net(alloc, &[], 1, &[])?;
+    let mut disk = disk(alloc, None, &[])?;
     let words = ["lamauth", "verify", "p", "open", "s", "()", "1", "q"];
-    assert!(rt; run(&rt, alloc, &words, &mut Endless::new(), &mut out, &mut net) == 7);
+    let mut files = Endless::new();
+    assert!(rt;
+        run(
+            &rt, alloc, &words, &mut files, &mut out, &mut net, &mut disk
+        ) == 7
+    );
     assert!(rt; out.bytes() == b"input refused: too long P\n".as_slice());
     Ok(())
 }

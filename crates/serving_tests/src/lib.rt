@@ -1,4 +1,4 @@
-//! Tests of the commands `serve`, `ask`, `mirror` and `draw` over a net in memory: what it writes, stores and sends, and where a call of the net,
+//! Tests of the commands `serve`, `ask`, `mirror` and `draw` over a net in memory, and of `found`, `host` and `replay` over a disk in memory too: what it writes, stores and sends, and where a call of the net,
 //! of the output or of the files fails.
 #![tactic(auto)]
 
@@ -6,6 +6,8 @@
 mod asking;
 #[cfg(test)]
 mod drawing;
+#[cfg(test)]
+mod hosting;
 #[cfg(test)]
 mod lies;
 #[cfg(test)]

@@ -39,6 +39,34 @@ fn call_and_leave(bytes: &mut Vec<u8>, role: u8, rounds: u32) -> Result<(), Allo
     add(bytes, &[4, 0, 1], &[])
 }
 
+/// What two sessions say that race: both greet at a state of the program, call a role without an argument, and run in one round.
+pub fn race(alloc: Global, program: &[u8], state: &[u8], role: u8) -> Result<Vec<u8>, AllocError> {
+    let mut bytes = Vec::new(alloc);
+    let mut greeting = Vec::from_slice(alloc, &Sha::of(program).0)?;
+    greeting.extend_from_slice(&[0, 0])?;
+    greeting.extend_from_slice(state)?;
+    for session in 1..3 {
+        add(&mut bytes, &[1, 0, session], &greeting)?;
+        add(
+            &mut bytes,
+            &[2, 0, session, 0, role, 0, 0, 0, 0, 0, 0, 0, 1],
+            &[],
+        )?;
+    }
+    add(&mut bytes, &[3, 0, 0], &1u32.to_be_bytes())?;
+    Ok(bytes)
+}
+
+/// What is answered to them: the first one's proof has these frames, and the other one is told the last state.
+pub fn raced(alloc: Global, frames: &[u8], last: &[u8]) -> Result<Vec<u8>, AllocError> {
+    let mut bytes = Vec::new(alloc);
+    add(&mut bytes, &[0x81, 0, 1], &[])?;
+    add(&mut bytes, &[0x81, 0, 2], &[])?;
+    add(&mut bytes, &[0x82, 0, 1], frames)?;
+    add(&mut bytes, &[0x83, 0, 2], last)?;
+    Ok(bytes)
+}
+
 /// What a server answers to it, with a proof of these frames.
 pub fn answers(alloc: Global, frames: &[u8]) -> Result<Vec<u8>, AllocError> {
     let mut bytes = Vec::new(alloc);
