@@ -11,6 +11,7 @@ use Rattle.std.proofs.lemmas.Grind.{common_steps}
 use Rattle.std.proofs.lemmas.List.Sums.{take_while-cons}
 use Rattle.std.proofs.lemmas.Str.{IsUtf8-from_ascii}
 use Rattle.std.proofs.lemmas.Str.Parse.{IsNumeralModel, numerals_by_value, tells_all_ascii_digits, parse_signed_digits, parse_signed_minus}
+use Rattle.core_terms.specs.declared.format.Format.{Format}
 use Rattle.lexemes.specs.Tokens.{negative, digits_of, Piece, is_blank, int_piece, minus_piece, first_piece}
 use Rattle.lexemes.specs.PieceViews.{IsDigits, int_among}
 
@@ -100,9 +101,9 @@ met true x y h = refl
 met false x y h = absurd (cc)
 
 -- the piece that begins with a digit
-first_digit : (b : ℕ) (rest : List ℕ) → 48 ≤ b → b ≤ 57
-    → first_piece b rest ≡ int_piece false (digits_of (b ∷ rest)) (length (digits_of (b ∷ rest)))
-first_digit b rest low high =
+first_digit : (format : Format) (b : ℕ) (rest : List ℕ) → 48 ≤ b → b ≤ 57
+    → first_piece format b rest ≡ int_piece false (digits_of (b ∷ rest)) (length (digits_of (b ∷ rest)))
+first_digit format b rest low high =
     passed (is_blank b) _ _ (grind (arith, nat_tests))
     ∙ (passed (b == 35) _ _ (grind (arith, nat_tests))
     ∙ (passed (is_ascii_lowercase b) _ _ (grind (arith, nat_tests))
@@ -114,12 +115,12 @@ minus_digit : (b : ℕ) (rest : List ℕ) → 48 ≤ b → b ≤ 57
 minus_digit b rest low high = passed (b == 62) _ _ (grind (arith, nat_tests)) ∙ met (is_ascii_digit b) _ _ (is_digit b low high)
 
 -- what was found at the digits that a text begins with
-pub first_int : (text : List ℕ) (b : ℕ) (rest : List ℕ) (size : ℕ) (found : Piece) → text ≡ b ∷ rest → size ≡ prefix_len is_ascii_digit text → 48 ≤ b → b ≤ 57
-    → (IsDigits (take size text) → found ≡ int_piece false (take size text) (length (take size text))) → found ≡ first_piece b rest
-first_int text b rest size found e n low high h =
+pub first_int : (format : Format) (text : List ℕ) (b : ℕ) (rest : List ℕ) (size : ℕ) (found : Piece) → text ≡ b ∷ rest → size ≡ prefix_len is_ascii_digit text → 48 ≤ b → b ≤ 57
+    → (IsDigits (take size text) → found ≡ int_piece false (take size text) (length (take size text))) → found ≡ first_piece format b rest
+first_int format text b rest size found e n low high h =
     let run : take size text ≡ digits_of (b ∷ rest) = ap (λ k. take k text) n ∙ ap digits_of e in
     h (subst IsDigits (sym run) (digits_run b rest (is_digit b low high)))
-    ∙ (ap (λ digits. int_piece false digits (length digits)) run ∙ sym (first_digit b rest low high))
+    ∙ (ap (λ digits. int_piece false digits (length digits)) run ∙ sym (first_digit format b rest low high))
 
 -- and behind a `-`
 pub minus_int : (text behind : List ℕ) (size : ℕ) (found : Piece) → text ≡ 45 ∷ behind → size ≡ prefix_len is_ascii_digit behind

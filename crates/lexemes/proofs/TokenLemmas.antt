@@ -9,6 +9,7 @@ use Rattle.std.specs.List.{prefix_len}
 use Rattle.std.specs.Char.{is_ascii_lowercase, is_ascii_uppercase, is_ascii_digit}
 use Rattle.std.specs.Str.Parse.{digits_value}
 use Rattle.std.specs.Str.{is_utf8}
+use Rattle.core_terms.specs.declared.format.Format.{Format}
 use Rattle.lexemes.specs.Places.{behind, behind_byte}
 use Rattle.lexemes.specs.Tokens.{Token, Next, End, Faulty, is_in_line, is_name_byte, is_blank, mark_of, mark_piece, word_of, name_limit, name_piece, lower_piece, LowerToken, int_piece, digits_of, minus_piece, Escape, escape_of, is_control, Quoted, Closed, CutOff, WrongAt, put, with_escape, quoted_behind, text_piece, text_limit, Piece, PassedOver, Taken, Wrong, first_piece, from_piece, tokens_behind, tokens_from}
 use Rattle.lexemes.specs.PieceViews.{head_piece, piece_view}
@@ -113,8 +114,8 @@ text_is_part n CutOff h = omega arith
 text_is_part n (WrongAt kind offset) h = h
 
 -- so is the first piece
-first_piece-is_part : (b : ℕ) (rest : List ℕ) → IsPart (length (b ∷ rest)) (first_piece b rest)
-first_piece-is_part b rest =
+first_piece-is_part : (format : Format) (b : ℕ) (rest : List ℕ) → IsPart (length (b ∷ rest)) (first_piece format b rest)
+first_piece-is_part format b rest =
     let text = b ∷ rest in
     let n = length text in
     either_part n (is_blank b) _ _ (λ _. (omega arith, omega arith)) (λ _.
@@ -127,62 +128,62 @@ first_piece-is_part b rest =
     (λ h. int_is_part false (digits_of text) _ n (taken_is_part is_ascii_digit b rest h)) (λ _.
     either_part n (b == 45) _ _ (λ _. minus_is_part rest) (λ _.
     either_part n (b == 34) _ _ (λ _. text_is_part n _ (quoted_is_part n zero 1 rest (omega arith)))
-    (λ _. mark_is_part (length rest) (mark_of b))))))))
+    (λ _. mark_is_part (length rest) (mark_of format b))))))))
 
 -- the piece that the code has found is within the text
-pub piece_is_part : (text : List ℕ) (piece : Piece) → Some piece ≡ head_piece text → IsPart (length text) piece
-piece_is_part [] piece h = absurd (cc)
-piece_is_part (b ∷ rest) piece h =
-    let e : first_piece b rest ≡ piece = cc in subst (IsPart (length (b ∷ rest))) e (first_piece-is_part b rest)
+pub piece_is_part : (format : Format) (text : List ℕ) (piece : Piece) → Some piece ≡ head_piece format text → IsPart (length text) piece
+piece_is_part format [] piece h = absurd (cc)
+piece_is_part format (b ∷ rest) piece h =
+    let e : first_piece format b rest ≡ piece = cc in subst (IsPart (length (b ∷ rest))) e (first_piece-is_part format b rest)
 
 -- the tokens behind some bytes are those of the text without them
-tokens_behind-drop : (n : ℕ) (at : Place) (text : List ℕ) → tokens_behind n at text ≡ tokens_from (behind at (take n text)) (drop n text)
-tokens_behind-drop zero at [] = refl
-tokens_behind-drop (suc n) at [] = refl
-tokens_behind-drop zero at (b ∷ rest) = refl
-tokens_behind-drop (suc n) at (b ∷ rest) = tokens_behind-drop n (behind_byte at b) rest
+tokens_behind-drop : (format : Format) (n : ℕ) (at : Place) (text : List ℕ) → tokens_behind format n at text ≡ tokens_from format (behind at (take n text)) (drop n text)
+tokens_behind-drop format zero at [] = refl
+tokens_behind-drop format (suc n) at [] = refl
+tokens_behind-drop format zero at (b ∷ rest) = refl
+tokens_behind-drop format (suc n) at (b ∷ rest) = tokens_behind-drop format n (behind_byte at b) rest
 
 -- behind a byte, so many bytes less are passed
-behind_first : (b : ℕ) (rest : List ℕ) (size : ℕ) (at : Place) → 0 < size
-    → tokens_behind (size - 1) (behind_byte at b) rest ≡ tokens_from (behind at (take size (b ∷ rest))) (drop size (b ∷ rest))
-behind_first b rest zero at h = absurd (omega arith)
-behind_first b rest (suc n) at h = rw sub-one (tokens_behind-drop n (behind_byte at b) rest)
+behind_first : (format : Format) (b : ℕ) (rest : List ℕ) (size : ℕ) (at : Place) → 0 < size
+    → tokens_behind format (size - 1) (behind_byte at b) rest ≡ tokens_from format (behind at (take size (b ∷ rest))) (drop size (b ∷ rest))
+behind_first format b rest zero at h = absurd (omega arith)
+behind_first format b rest (suc n) at h = rw sub-one (tokens_behind-drop format n (behind_byte at b) rest)
 
 -- the tokens of a text are those from its first piece on
-pub tokens-passed_over : (text : List ℕ) (at : Place) (size : ℕ) → Some (PassedOver size) ≡ head_piece text
-    → tokens_from at text ≡ tokens_from (behind at (take size text)) (drop size text)
-tokens-passed_over [] at size h = absurd (cc)
-tokens-passed_over (b ∷ rest) at size h =
-    let part = piece_is_part (b ∷ rest) (PassedOver size) h in
-    let e : first_piece b rest ≡ PassedOver size = cc in
-    ap (λ piece. from_piece piece at (b ∷ rest) (λ size. tokens_behind (size - 1) (behind_byte at b) rest)) e
-    ∙ behind_first b rest size at part.0
+pub tokens-passed_over : (format : Format) (text : List ℕ) (at : Place) (size : ℕ) → Some (PassedOver size) ≡ head_piece format text
+    → tokens_from format at text ≡ tokens_from format (behind at (take size text)) (drop size text)
+tokens-passed_over format [] at size h = absurd (cc)
+tokens-passed_over format (b ∷ rest) at size h =
+    let part = piece_is_part format (b ∷ rest) (PassedOver size) h in
+    let e : first_piece format b rest ≡ PassedOver size = cc in
+    ap (λ piece. from_piece piece at (b ∷ rest) (λ size. tokens_behind format (size - 1) (behind_byte at b) rest)) e
+    ∙ behind_first format b rest size at part.0
 
-pub tokens-taken : (text : List ℕ) (at : Place) (token : Token) (size : ℕ) → Some (Taken token size) ≡ head_piece text
-    → tokens_from at text ≡ Next at token (tokens_from (behind at (take size text)) (drop size text))
-tokens-taken [] at token size h = absurd (cc)
-tokens-taken (b ∷ rest) at token size h =
-    let part = piece_is_part (b ∷ rest) (Taken token size) h in
-    let e : first_piece b rest ≡ Taken token size = cc in
-    ap (λ piece. from_piece piece at (b ∷ rest) (λ size. tokens_behind (size - 1) (behind_byte at b) rest)) e
-    ∙ ap (Next at token) (behind_first b rest size at part.0)
+pub tokens-taken : (format : Format) (text : List ℕ) (at : Place) (token : Token) (size : ℕ) → Some (Taken token size) ≡ head_piece format text
+    → tokens_from format at text ≡ Next at token (tokens_from format (behind at (take size text)) (drop size text))
+tokens-taken format [] at token size h = absurd (cc)
+tokens-taken format (b ∷ rest) at token size h =
+    let part = piece_is_part format (b ∷ rest) (Taken token size) h in
+    let e : first_piece format b rest ≡ Taken token size = cc in
+    ap (λ piece. from_piece piece at (b ∷ rest) (λ size. tokens_behind format (size - 1) (behind_byte at b) rest)) e
+    ∙ ap (Next at token) (behind_first format b rest size at part.0)
 
-pub tokens-wrong : (text : List ℕ) (at : Place) (kind : LexicalFault) (offset : ℕ) → Some (Wrong kind offset) ≡ head_piece text
-    → tokens_from at text ≡ Faulty (behind at (take offset text)) kind
-tokens-wrong [] at kind offset h = absurd (cc)
-tokens-wrong (b ∷ rest) at kind offset h =
-    let e : first_piece b rest ≡ Wrong kind offset = cc in
-    ap (λ piece. from_piece piece at (b ∷ rest) (λ size. tokens_behind (size - 1) (behind_byte at b) rest)) e
+pub tokens-wrong : (format : Format) (text : List ℕ) (at : Place) (kind : LexicalFault) (offset : ℕ) → Some (Wrong kind offset) ≡ head_piece format text
+    → tokens_from format at text ≡ Faulty (behind at (take offset text)) kind
+tokens-wrong format [] at kind offset h = absurd (cc)
+tokens-wrong format (b ∷ rest) at kind offset h =
+    let e : first_piece format b rest ≡ Wrong kind offset = cc in
+    ap (λ piece. from_piece piece at (b ∷ rest) (λ size. tokens_behind format (size - 1) (behind_byte at b) rest)) e
 
-pub tokens-end : (text : List ℕ) (at : Place) → None ≡ head_piece text → tokens_from at text ≡ End at
-tokens-end [] at h = refl
-tokens-end (b ∷ rest) at h = absurd (cc)
+pub tokens-end : (format : Format) (text : List ℕ) (at : Place) → None ≡ head_piece format text → tokens_from format at text ≡ End at
+tokens-end format [] at h = refl
+tokens-end format (b ∷ rest) at h = absurd (cc)
 
 -- the piece that the code has found
-pub found_piece : (text : List ℕ) (found : Option PieceCode) (first piece : PieceCode) → option_map piece_view found ≡ head_piece text
-    → found ≡ Some first → first ≡ piece → Some (piece_view piece) ≡ head_piece text
-found_piece text found first piece h e e' = sym (ap (option_map piece_view) (e ∙ ap (λ p. Some p) e')) ∙ h
+pub found_piece : (format : Format) (text : List ℕ) (found : Option PieceCode) (first piece : PieceCode) → option_map piece_view found ≡ head_piece format text
+    → found ≡ Some first → first ≡ piece → Some (piece_view piece) ≡ head_piece format text
+found_piece format text found first piece h e e' = sym (ap (option_map piece_view) (e ∙ ap (λ p. Some p) e')) ∙ h
 
 -- the tokens left at the same place of the same text
-pub same_left : (at other : Place) (text rest : List ℕ) → other ≡ at → rest ≡ text → tokens_from at text ≡ tokens_from other rest
-same_left at other text rest e e' = cc
+pub same_left : (format of_lexer : Format) (at other : Place) (text rest : List ℕ) → of_lexer ≡ format → other ≡ at → rest ≡ text → tokens_from format at text ≡ tokens_from of_lexer other rest
+same_left format of_lexer at other text rest same e e' = cc

@@ -2,6 +2,7 @@
 use Rattle.std.specs.Prelude.{ℕ, ◌+◌, ◌^◌, ◌<◌, ◌≡◌, ℤ, pos, Bool, true, false, ◌==◌, nat_lt, nat_le, List, [], ◌∷◌, length, Option, Some, None, if◌then◌else◌}
 use Rattle.std.specs.Str.{all_ascii_digits}
 use Rattle.std.specs.Str.Parse.{digits_value}
+use Rattle.core_terms.specs.declared.format.Format.{Format}
 use Rattle.lexemes.specs.Tokens.{Piece, PassedOver, Taken, Wrong, first_piece, negative, Escape, escape_of, Quoted, Closed, CutOff, WrongAt, is_control}
 use Rattle.lexemes.specs.TokenViews.{token_view}
 use Rattle.lexemes.specs.declared.lexer.pieces.Piece.{Piece as PieceCode}
@@ -19,9 +20,9 @@ piece_view (piece.Taken token size) = Taken (token_view token) size
 piece_view (piece.Wrong kind offset) = Wrong kind offset
 
 -- the piece at the head of a text, which has none where it is empty
-abbrev pub head_piece : List ℕ → Option Piece
-head_piece [] = None
-head_piece (b ∷ rest) = Some (first_piece b rest)
+abbrev pub head_piece : Format → List ℕ → Option Piece
+head_piece format [] = None
+head_piece format (b ∷ rest) = Some (first_piece format b rest)
 
 -- one decimal digit or more, and nothing else
 abbrev pub IsDigits : List ℕ → Type 0

@@ -4,7 +4,7 @@ use Rattle.core_terms.specs.declared.fault.Fault.{Fault}
 use Rattle.lexemes.specs.declared.place.Place.{Place}
 use Rattle.lexemes.specs.declared.token.Keyword.{Keyword}
 use Rattle.lexemes.specs.declared.token.Mark.{Mark}
-use Rattle.lexemes.specs.declared.token.Mark.TheVariants.{LeftParenthesis, RightParenthesis, Comma, Semicolon, Colon, EqualsSign, Bar, Arrow}
+use Rattle.lexemes.specs.declared.token.Mark.TheVariants.{LeftParenthesis, RightParenthesis, Comma, Semicolon, Colon, EqualsSign, Bar, Arrow, LeftBracket, RightBracket}
 use Rattle.lexemes.specs.declared.fault.SyntaxKind.{SyntaxKind}
 use Rattle.lexemes.specs.declared.fault.SyntaxKind.TheVariants.{Lexical, Expected}
 use Rattle.lexemes.specs.Tokens.{KeywordToken, MarkToken, Tokens, Next, End, Faulty, keyword_text}
@@ -39,6 +39,8 @@ is_mark Colon Colon = true
 is_mark EqualsSign EqualsSign = true
 is_mark Bar Bar = true
 is_mark Arrow Arrow = true
+is_mark LeftBracket LeftBracket = true
+is_mark RightBracket RightBracket = true
 is_mark wanted found = false
 
 abbrev pub is_keyword : Keyword → Keyword → Bool

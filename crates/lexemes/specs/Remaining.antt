@@ -1,7 +1,7 @@
 -- The tokens that a parser has still to read, and what its answers say of what a definition finds. Where memory ran out nothing is said.
-use Rattle.std.specs.Prelude.{◌≡◌, Bool, true, false, Result, Ok, Err, ⊤, if◌then◌else◌}
+use Rattle.std.specs.Prelude.{◌≡◌, ℕ, Bool, true, false, List, bytes_eq, Result, Ok, Err, ⊤, if◌then◌else◌}
 use Rattle.lexemes.specs.declared.token.Mark.{Mark}
-use Rattle.lexemes.specs.Tokens.{MarkToken, Tokens, Next, End, Faulty}
+use Rattle.lexemes.specs.Tokens.{MarkToken, LowerToken, Tokens, Next, End, Faulty}
 use Rattle.lexemes.specs.TokenViews.{token_view, tokens_left}
 use Rattle.lexemes.specs.Readings.{Reading, Found, FaultAt, is_mark}
 use Rattle.lexemes.specs.Readings.{SyntaxFault}
@@ -32,6 +32,12 @@ abbrev pub read_end : Tokens → Reading (Unit {0})
 read_end (Next at token rest) = FaultAt Expected at
 read_end (End at) = Found tt (End at)
 read_end (Faulty at kind) = FaultAt (Lexical kind) at
+
+-- whether this lower name stands at the head; where it does, it is taken
+abbrev pub read_if_lower : List ℕ → Tokens → Reading Bool
+read_if_lower wanted (Next at (LowerToken found) rest) =
+    if bytes_eq found wanted then Found true rest else Found false (Next at (LowerToken found) rest)
+read_if_lower wanted tokens = Found false tokens
 
 -- whether this mark stands at the head; where it does, it is taken
 abbrev pub read_if_mark : Mark → Tokens → Reading Bool

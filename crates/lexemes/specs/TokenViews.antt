@@ -19,7 +19,7 @@ token_view (code.Text text) = TextToken (bytes_of text)
 
 -- the tokens that a lexer has still to give
 abbrev pub tokens_left : Lexer → Tokens
-tokens_left lexer = tokens_from lexer.at lexer.rest.now
+tokens_left lexer = tokens_from lexer.format lexer.at lexer.rest.now
 
 -- these tokens begin with what was found, and behind it these remain; the end and a fault remain what they are
 abbrev pub IsHead : Tokens → Lexeme → Tokens → Type 0

@@ -1,10 +1,14 @@
 -- The tokens of a text: the words, numbers, texts and marks that it consists of, each with its place, without the blanks and
--- comments between them; and its first lexical fault.
-use Rattle.std.specs.Prelude.{ℕ, zero, suc, ℤ, pos, negsuc, ◌+◌, ◌*◌, ◌^◌, Bool, true, false, not, ◌==◌, ◌||◌, ◌&&◌, nat_lt, nat_le, ◌-◌, List, [], ◌∷◌, map, length, Option, Some, None, if◌then◌else◌, codes, bytes_eq, take}
+-- comments between them; and its first lexical fault. Each format has tokens of its own: the words and marks of arrays are those of the
+-- second alone, and in the first their words are names.
+use Rattle.std.specs.Prelude.{ℕ, zero, suc, ℤ, pos, negsuc, ◌+◌, ◌*◌, ◌^◌, Bool, true, false, not, ◌==◌, ◌||◌, ◌&&◌, nat_lt, nat_le, ◌-◌, List, [], ◌∷◌, ◌++◌, map, length, Option, Some, None, if◌then◌else◌, codes, bytes_eq, take}
 use Rattle.std.specs.List.{prefix_len}
 use Rattle.std.specs.Char.{is_ascii_lowercase, is_ascii_uppercase, is_ascii_alphanumeric, is_ascii_digit}
 use Rattle.std.specs.Str.{is_utf8}
 use Rattle.std.specs.Str.Parse.{digits_value}
+use Rattle.core_terms.specs.ProgramFormats.{arrays_of}
+use Rattle.core_terms.specs.declared.format.Format.{Format}
+use Rattle.core_terms.specs.declared.format.Format.TheVariants.{First, Second}
 use Rattle.core_terms.specs.declared.term.BinaryOperator.{BinaryOperator}
 use Rattle.core_terms.specs.declared.term.BinaryOperator.TheVariants.{Arith, Compare, TextCompare, Cat}
 use Rattle.core_terms.specs.declared.term.Arith.TheVariants.{Add, Sub, Mul, Div, Rem}
@@ -13,9 +17,9 @@ use Rattle.core_terms.specs.declared.term.TextCompare.TheVariants.{Eq as TEq, Lt
 use Rattle.lexemes.specs.Places.{start, behind_byte, behind}
 use Rattle.lexemes.specs.declared.place.Place.{Place}
 use Rattle.lexemes.specs.declared.token.Keyword.{Keyword}
-use Rattle.lexemes.specs.declared.token.Keyword.TheVariants.{«Type» as TypeWord, State as StateWord, Fun as FunWord, Init as InitWord, Query as QueryWord, Update as UpdateWord, Let as LetWord, In as InWord, Match as MatchWord, With as WithWord, End as EndWord, If as IfWord, Then as ThenWord, Else as ElseWord, Auth as AuthWord, Unauth as UnauthWord, Fst as FstWord, Snd as SndWord, Unit as UnitWord, Bool as BoolWord, Int as IntWord, Text as TextWord, True as TrueWord, False as FalseWord, Len as LenWord, Not as NotWord, Binary as BinaryWord}
+use Rattle.lexemes.specs.declared.token.Keyword.TheVariants.{«Type» as TypeWord, State as StateWord, Fun as FunWord, Init as InitWord, Query as QueryWord, Update as UpdateWord, Let as LetWord, In as InWord, Match as MatchWord, With as WithWord, End as EndWord, If as IfWord, Then as ThenWord, Else as ElseWord, Auth as AuthWord, Unauth as UnauthWord, Fst as FstWord, Snd as SndWord, Unit as UnitWord, Bool as BoolWord, Int as IntWord, Text as TextWord, True as TrueWord, False as FalseWord, Len as LenWord, Not as NotWord, Vec as VecWord, VecFill as VecFillWord, VecGet as VecGetWord, VecPut as VecPutWord, Binary as BinaryWord}
 use Rattle.lexemes.specs.declared.token.Mark.{Mark}
-use Rattle.lexemes.specs.declared.token.Mark.TheVariants.{LeftParenthesis, RightParenthesis, Comma, Semicolon, Colon, EqualsSign, Bar, Arrow}
+use Rattle.lexemes.specs.declared.token.Mark.TheVariants.{LeftParenthesis, RightParenthesis, Comma, Semicolon, Colon, EqualsSign, Bar, Arrow, LeftBracket, RightBracket}
 use Rattle.lexemes.specs.declared.fault.LexicalFault.{LexicalFault}
 use Rattle.lexemes.specs.declared.fault.LexicalFault.TheVariants.{Char as CharFault, BadEscape, Unclosed, Utf8 as Utf8Fault, TextLong, NumberRange, NameLong}
 
@@ -46,9 +50,13 @@ is_name_byte b = is_ascii_alphanumeric b || b == 95
 abbrev pub is_in_line : ℕ → Bool
 is_in_line b = not (b == 10)
 
+-- a mark of arrays
+abbrev pub array_mark : Format → Mark → Option Mark
+array_mark format mark = if arrays_of format then Some mark else None
+
 -- the mark that a byte is by itself
-abbrev pub mark_of : ℕ → Option Mark
-mark_of b =
+abbrev pub mark_of : Format → ℕ → Option Mark
+mark_of format b =
     if b == 40 then Some LeftParenthesis else
     if b == 41 then Some RightParenthesis else
     if b == 44 then Some Comma else
@@ -56,6 +64,8 @@ mark_of b =
     if b == 58 then Some Colon else
     if b == 61 then Some EqualsSign else
     if b == 124 then Some Bar else
+    if b == 91 then array_mark format LeftBracket else
+    if b == 93 then array_mark format RightBracket else
     None
 
 -- the word of an operator on two operands
@@ -105,23 +115,37 @@ keyword_text TrueWord = codes "true"
 keyword_text FalseWord = codes "false"
 keyword_text LenWord = codes "len"
 keyword_text NotWord = codes "not"
+keyword_text VecWord = codes "vec"
+keyword_text VecFillWord = codes "vfill"
+keyword_text VecGetWord = codes "vget"
+keyword_text VecPutWord = codes "vput"
 keyword_text (BinaryWord operator) = operator_text operator
 
-abbrev pub keywords : List Keyword
-keywords =
+-- the keywords of both formats
+abbrev pub common_keywords : List Keyword
+common_keywords =
     TypeWord ∷ StateWord ∷ FunWord ∷ InitWord ∷ QueryWord ∷ UpdateWord
     ∷ LetWord ∷ InWord ∷ MatchWord ∷ WithWord ∷ EndWord ∷ IfWord ∷ ThenWord ∷ ElseWord
     ∷ AuthWord ∷ UnauthWord ∷ FstWord ∷ SndWord ∷ UnitWord ∷ BoolWord ∷ IntWord ∷ TextWord ∷ TrueWord ∷ FalseWord
     ∷ LenWord ∷ NotWord
     ∷ map BinaryWord operators
 
+-- those of arrays
+abbrev pub array_keywords : Format → List Keyword
+array_keywords First = []
+array_keywords Second = VecWord ∷ VecFillWord ∷ VecGetWord ∷ VecPutWord ∷ []
+
+abbrev pub keywords : Format → List Keyword
+keywords format = common_keywords ++ array_keywords format
+
 -- the keyword of this text, among these
 abbrev pub keyword_among : List Keyword → List ℕ → Option Keyword
 keyword_among [] word = None
 keyword_among (keyword ∷ others) word = if bytes_eq word (keyword_text keyword) then Some keyword else keyword_among others word
 
-abbrev pub keyword_of : List ℕ → Option Keyword
-keyword_of word = keyword_among keywords word
+-- the keyword of this text in a format
+abbrev pub keyword_of : Format → List ℕ → Option Keyword
+keyword_of format word = keyword_among (keywords format) word
 
 -- how many bytes a name has at most, and a text
 abbrev pub name_limit : ℕ
@@ -254,16 +278,16 @@ mark_piece None = Wrong CharFault 0
 
 -- The piece at the head of a text that begins with this byte: a single blank, a comment up to the end of its line, a word, an int, a
 -- text or a mark.
-abbrev pub first_piece : ℕ → List ℕ → Piece
-first_piece b rest =
+abbrev pub first_piece : Format → ℕ → List ℕ → Piece
+first_piece format b rest =
     if is_blank b then PassedOver 1 else
     if b == 35 then PassedOver (prefix_len is_in_line (b ∷ rest)) else
-    if is_ascii_lowercase b then (let word = word_of (b ∷ rest) in lower_piece (keyword_of word) word) else
+    if is_ascii_lowercase b then (let word = word_of (b ∷ rest) in lower_piece (keyword_of format word) word) else
     if is_ascii_uppercase b then (let word = word_of (b ∷ rest) in name_piece (UpperToken word) word) else
     if is_ascii_digit b then (let digits = digits_of (b ∷ rest) in int_piece false digits (length digits)) else
     if b == 45 then minus_piece rest else
     if b == 34 then text_piece (quoted_behind zero 1 rest) else
-    mark_piece (mark_of b)
+    mark_piece (mark_of format b)
 
 -- the tokens from a piece on, which stands at a place at the head of these bytes; `go` gives those behind so many bytes of them
 abbrev pub from_piece : Piece → Place → List ℕ → (ℕ → Tokens) → Tokens
@@ -272,19 +296,19 @@ from_piece (Taken token size) at bytes go = Next at token (go size)
 from_piece (Wrong kind offset) at bytes go = Faulty (behind at (take offset bytes)) kind
 
 -- the tokens of a text from a place on, behind its first so many bytes, which belong to a piece before
-abbrev pub tokens_behind : ℕ → Place → List ℕ → Tokens
-tokens_behind n at [] = End at
-tokens_behind (suc n) at (b ∷ rest) = tokens_behind n (behind_byte at b) rest
-tokens_behind zero at (b ∷ rest) =
-    from_piece (first_piece b rest) at (b ∷ rest) (λ size. tokens_behind (size - 1) (behind_byte at b) rest)
+abbrev pub tokens_behind : Format → ℕ → Place → List ℕ → Tokens
+tokens_behind format n at [] = End at
+tokens_behind format (suc n) at (b ∷ rest) = tokens_behind format n (behind_byte at b) rest
+tokens_behind format zero at (b ∷ rest) =
+    from_piece (first_piece format b rest) at (b ∷ rest) (λ size. tokens_behind format (size - 1) (behind_byte at b) rest)
 
 -- the tokens of a text, from a place on
-abbrev pub tokens_from : Place → List ℕ → Tokens
-tokens_from at text = tokens_behind 0 at text
+abbrev pub tokens_from : Format → Place → List ℕ → Tokens
+tokens_from format at text = tokens_behind format 0 at text
 
 -- the tokens of a text, which is a list of bytes
-abbrev pub tokens : List ℕ → Tokens
-tokens text = tokens_from start text
+abbrev pub tokens : Format → List ℕ → Tokens
+tokens format text = tokens_from format start text
 
 -- how many tokens there are
 abbrev pub count : Tokens → ℕ

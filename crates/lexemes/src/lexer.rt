@@ -13,6 +13,7 @@ use crate::fault::LexicalFault;
 use crate::lexer::pieces::{Piece, head_piece};
 use crate::place::Place;
 use crate::token::Token;
+use core_terms::Format;
 use std::alloc::{AllocError, Global};
 
 /// What stands at the head of a text: a token, its end or its first lexical fault, with the place.
@@ -23,9 +24,10 @@ pub enum Lexeme<'a> {
     Fault(Place, LexicalFault),
 }
 
-/// A text that is read token by token: what is left of it, and the place of that. A copy reads ahead.
+/// A text that is read token by token, as its format has them: what is left of it, and the place of that. A copy reads ahead.
 #[derive(Clone, Copy)]
 pub struct Lexer<'a> {
+    format: Format,
     rest: &'a [u8],
     at: Place,
     ghost counted: { HasRoom at (length rest.now) },
@@ -35,10 +37,11 @@ impl<'a> Lexer<'a> {
     ghost use Rattle.lexemes.specs.TokenViews.{IsHead, tokens_left};
 
     /// The lexer before a text.
-    pub fn new(text: &'a [u8]) -> Self
-        ensures { tokens_left result ≡ tokens text.now }
+    pub fn new(format: Format, text: &'a [u8]) -> Self
+        ensures { tokens_left result ≡ tokens format text.now }
     {
         Lexer {
+            format,
             rest: text,
             at: Place::START,
         }
@@ -47,6 +50,7 @@ impl<'a> Lexer<'a> {
     // Passes over so many bytes.
     fn pass(&mut self, size: usize)
         requires { size ≤ length self.old.rest.now }
+        ensures format { self.new.format ≡ self.old.format }
         ensures rest { self.new.rest.now ≡ drop size self.old.rest.now }
         ensures at { self.new.at ≡ behind self.old.at (take size self.old.rest.now) }
     {
@@ -58,7 +62,7 @@ impl<'a> Lexer<'a> {
     pub fn next(&mut self, alloc: Global) -> Result<Lexeme<'a>, AllocError>
         ensures { IfOk result (λ lexeme. IsHead (tokens_left self.old) lexeme (tokens_left self.new)) }
     {
-        while let Some(piece) = head_piece(alloc, self.rest)? {
+        while let Some(piece) = head_piece(alloc, self.format, self.rest)? {
             match piece {
                 Piece::PassedOver(size) => self.pass(size),
                 Piece::Taken(token, size) => {

@@ -11,6 +11,7 @@ use crate::lexer::words::keyword_text;
 use crate::lexer::{Lexeme, Lexer};
 use crate::place::Place;
 use crate::token::{Keyword, Mark, Token};
+use core_terms::Format;
 use std::alloc::{AllocError, Global};
 
 /// A token where it stands.
@@ -29,15 +30,15 @@ pub struct Parser<'a> {
 
 impl<'a> Parser<'a> {
     ghost use Rattle.std.specs.Prelude.{◌≡◌};
-    ghost use Rattle.lexemes.specs.Remaining.{read_end, read_if_mark, remaining, Takes};
+    ghost use Rattle.lexemes.specs.Remaining.{read_end, read_if_lower, read_if_mark, remaining, Takes};
 
-    /// The parser before a text.
-    pub fn new(alloc: Global, text: &'a [u8]) -> Self
-        ensures { remaining result ≡ tokens text.now }
+    /// The parser before a text of a format.
+    pub fn new(alloc: Global, format: Format, text: &'a [u8]) -> Self
+        ensures { remaining result ≡ tokens format text.now }
     {
         Parser {
             alloc,
-            lexer: Lexer::new(text),
+            lexer: Lexer::new(format, text),
         }
     }
 
@@ -81,6 +82,20 @@ impl<'a> Parser<'a> {
         let mut ahead = self.lexer;
         match ahead.next(self.alloc)? {
             Lexeme::Token(_, Token::Mark(found)) if found == wanted => {
+                self.lexer = ahead;
+                Ok(true)
+            }
+            _ => Ok(false),
+        }
+    }
+
+    /// Takes this lower name where it stands at the head, and tells whether it does.
+    pub fn if_lower(&mut self, wanted: &[u8]) -> Result<bool, SyntaxFault>
+        ensures { Reads (λ stands. stands) (read_if_lower wanted.now (remaining self.old)) result (remaining self.new) }
+    {
+        let mut ahead = self.lexer;
+        match ahead.next(self.alloc)? {
+            Lexeme::Token(_, Token::Lower(found)) if found.as_bytes() == wanted => {
                 self.lexer = ahead;
                 Ok(true)
             }

@@ -31,11 +31,16 @@ pub enum Keyword {
     False,
     Len,
     Not,
+    /// `vec`, `vfill`, `vget` and `vput` are words of the second format alone.
+    Vec,
+    VecFill,
+    VecGet,
+    VecPut,
     /// The word of an operator.
     Binary(BinaryOperator),
 }
 
-/// A mark: one of `( ) , ; : = | ->`.
+/// A mark: one of `( ) , ; : = | ->`, and in the second format `[ ]`.
 #[derive(Clone, Copy, PartialEq, Eq)]
 pub enum Mark {
     LeftParenthesis,
@@ -46,6 +51,8 @@ pub enum Mark {
     EqualsSign,
     Bar,
     Arrow,
+    LeftBracket,
+    RightBracket,
 }
 
 /// A token; a name is lent from the text, a text literal has the bytes that it stands for.

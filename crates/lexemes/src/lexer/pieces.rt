@@ -10,6 +10,7 @@ use crate::lexer::numbers::{digits_len, int_piece};
 use crate::lexer::texts::text_piece;
 use crate::lexer::words::{lower_piece, upper_piece, word_len};
 use crate::token::{Mark, Token};
+use core_terms::Format;
 use std::alloc::{AllocError, Global};
 
 /// What stands at the head of a text.
@@ -30,8 +31,8 @@ fn line_len(text: &[u8]) -> usize
     text.iter().take_while(|byte| **byte != b'\n').count()
 }
 
-fn mark_of(byte: u8) -> Option<Mark>
-    ensures { result ≡ mark_of byte }
+fn mark_of(format: Format, byte: u8) -> Option<Mark>
+    ensures { result ≡ mark_of format byte }
 {
     match byte {
         b'(' => Some(Mark::LeftParenthesis),
@@ -41,14 +42,16 @@ fn mark_of(byte: u8) -> Option<Mark>
         b':' => Some(Mark::Colon),
         b'=' => Some(Mark::EqualsSign),
         b'|' => Some(Mark::Bar),
+        b'[' if format == Format::Second => Some(Mark::LeftBracket),
+        b']' if format == Format::Second => Some(Mark::RightBracket),
         _ => None,
     }
 }
 
-fn mark_piece<'a>(byte: u8) -> Piece<'a>
-    ensures { piece_view result ≡ mark_piece (mark_of byte) }
+fn mark_piece<'a>(format: Format, byte: u8) -> Piece<'a>
+    ensures { piece_view result ≡ mark_piece (mark_of format byte) }
 {
-    match mark_of(byte) {
+    match mark_of(format, byte) {
         Some(mark) => Piece::Taken(Token::Mark(mark), 1),
         None => Piece::Wrong(LexicalFault::Char, 0),
     }
@@ -70,22 +73,23 @@ fn minus_piece<'a>(text: &[u8], behind: &[u8]) -> Piece<'a>
 #[tactic(auto, using(crate::proofs::WordLemmas::small_word, crate::proofs::WordLemmas::capital_word))]
 fn first_piece<'a>(
     alloc: Global,
+    format: Format,
     text: &'a [u8],
     first: u8,
     behind: &[u8],
 ) -> Result<Piece<'a>, AllocError>
     requires { text.now ≡ first ∷ behind.now }
-    ensures { IfOk result (λ piece. piece_view piece ≡ first_piece first behind.now) }
+    ensures { IfOk result (λ piece. piece_view piece ≡ first_piece format first behind.now) }
 {
     match first {
         b' ' | b'\t' | b'\n' | b'\r' => Ok(Piece::PassedOver(1)),
         b'#' => Ok(Piece::PassedOver(line_len(text))),
-        b'a'..=b'z' => Ok(lower_piece(&text[..word_len(text)])),
+        b'a'..=b'z' => Ok(lower_piece(format, &text[..word_len(text)])),
         b'A'..=b'Z' => Ok(upper_piece(&text[..word_len(text)])),
         b'0'..=b'9' => Ok(int_piece(&text[..digits_len(text)])),
         b'-' => Ok(minus_piece(text, behind)),
         b'"' => text_piece(alloc, behind),
-        _ => Ok(mark_piece(first)),
+        _ => Ok(mark_piece(format, first)),
     }
 }
 
@@ -94,12 +98,16 @@ fn first_piece<'a>(
 /// # Errors
 ///
 /// `AllocError` where there is no memory for the bytes of a text between quotes.
-pub(crate) fn head_piece<'a>(alloc: Global, text: &'a [u8]) -> Result<Option<Piece<'a>>, AllocError>
-    ensures { IfOk result (λ piece. option_map piece_view piece ≡ head_piece text.now) }
+pub(crate) fn head_piece<'a>(
+    alloc: Global,
+    format: Format,
+    text: &'a [u8],
+) -> Result<Option<Piece<'a>>, AllocError>
+    ensures { IfOk result (λ piece. option_map piece_view piece ≡ head_piece format text.now) }
 {
     let Some((first, behind)) = text.split_first() else {
         return Ok(None);
     };
-    let piece = first_piece(alloc, text, *first, behind)?;
+    let piece = first_piece(alloc, format, text, *first, behind)?;
     Ok(Some(piece))
 }

@@ -2,13 +2,13 @@
 
 ghost use Rattle.std.specs.Prelude.{◌≡◌, ◌≤◌, length};
 ghost use Rattle.std.specs.List.{prefix_len};
-ghost use Rattle.lexemes.specs.Tokens.{is_name_byte, keyword_text, keyword_of, operator_text, name_piece, lower_piece, UpperToken};
+ghost use Rattle.lexemes.specs.Tokens.{is_name_byte, keyword_text, keyword_of, keyword_among, common_keywords, array_keywords, operator_text, name_piece, lower_piece, UpperToken};
 ghost use Rattle.lexemes.specs.PieceViews.{piece_view};
 
 use crate::fault::LexicalFault;
 use crate::lexer::pieces::Piece;
 use crate::token::{Keyword, Token};
-use core_terms::{Arith, BinaryOperator, Compare, NameRef, TextCompare};
+use core_terms::{Arith, BinaryOperator, Compare, Format, NameRef, TextCompare};
 
 /// How many bytes a text begins with that may stand in a name.
 pub(crate) fn word_len(text: &[u8]) -> usize
@@ -50,6 +50,10 @@ pub fn keyword_text(keyword: Keyword) -> &'static [u8]
         Keyword::False => b"false",
         Keyword::Len => b"len",
         Keyword::Not => b"not",
+        Keyword::Vec => b"vec",
+        Keyword::VecFill => b"vfill",
+        Keyword::VecGet => b"vget",
+        Keyword::VecPut => b"vput",
         Keyword::Binary(operator) => operator_text(operator),
     }
 }
@@ -73,8 +77,9 @@ fn operator_text(operator: BinaryOperator) -> &'static [u8]
     }
 }
 
-fn keyword_of(word: &[u8]) -> Option<Keyword>
-    ensures { result ≡ keyword_of word.now }
+// The keyword of both formats that a word is.
+fn common_keyword(word: &[u8]) -> Option<Keyword>
+    ensures { result ≡ keyword_among common_keywords word.now }
 {
     match word {
         b"type" => Some(Keyword::Type),
@@ -118,13 +123,39 @@ fn keyword_of(word: &[u8]) -> Option<Keyword>
     }
 }
 
+// The keyword of arrays that a word is.
+fn array_keyword(format: Format, word: &[u8]) -> Option<Keyword>
+    ensures { result ≡ keyword_among (array_keywords format) word.now }
+{
+    if format == Format::First {
+        return None;
+    }
+    match word {
+        b"vec" => Some(Keyword::Vec),
+        b"vfill" => Some(Keyword::VecFill),
+        b"vget" => Some(Keyword::VecGet),
+        b"vput" => Some(Keyword::VecPut),
+        _ => None,
+    }
+}
+
+#[tactic(auto, using(crate::proofs::WordLemmas::common_missed))]
+fn keyword_of(format: Format, word: &[u8]) -> Option<Keyword>
+    ensures { result ≡ keyword_of format word.now }
+{
+    match common_keyword(word) {
+        Some(keyword) => Some(keyword),
+        None => array_keyword(format, word),
+    }
+}
+
 /// A word that begins with a small letter: a keyword, or else a lower name.
 #[tactic(auto, using(crate::proofs::WordLemmas::name_taken, crate::proofs::WordLemmas::name_long))]
-pub(crate) fn lower_piece<'a>(word: &'a [u8]) -> Piece<'a>
+pub(crate) fn lower_piece<'a>(format: Format, word: &'a [u8]) -> Piece<'a>
     requires { 1 ≤ length word.now }
-    ensures { piece_view result ≡ lower_piece (keyword_of word.now) word.now }
+    ensures { piece_view result ≡ lower_piece (keyword_of format word.now) word.now }
 {
-    if let Some(keyword) = keyword_of(word) {
+    if let Some(keyword) = keyword_of(format, word) {
         return Piece::Taken(Token::Keyword(keyword), word.len());
     }
     match NameRef::new(word) {
