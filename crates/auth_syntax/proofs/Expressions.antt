@@ -1,19 +1,22 @@
 -- The reader of expressions.
 use Rattle.std.proofs.Common.{◌≡◌, ℕ, zero, suc, ◌<◌, ◌≤◌, Bool, true, false, cond, List, [], ◌∷◌, ◌++◌, length, Option, Some, None, refl, sym, ap, subst, ◌∙◌, arith, append_assoc, length-append}
+use Rattle.std.proofs.lemmas.Option.{same_Some}
 use Rattle.core_terms.specs.declared.term.BinaryOperator.{BinaryOperator}
 use Rattle.lexemes.specs.declared.place.Place.{Place}
 use Rattle.lexemes.specs.declared.token.Keyword.{Keyword}
-use Rattle.lexemes.specs.declared.token.Keyword.TheVariants.{Let as LetWord, In as InWord, Match as MatchWord, With as WithWord, End as EndWord, If as IfWord, Then as ThenWord', Else as ElseWord, True as TrueWord, False as FalseWord, Auth as AuthWord, Unauth as UnauthWord, Fst as FstWord, Snd as SndWord, Len as LenWord, Not as NotWord, Binary as BinaryWord}
+use Rattle.lexemes.specs.declared.token.Keyword.TheVariants.{Let as LetWord, In as InWord, Match as MatchWord, With as WithWord, End as EndWord, If as IfWord, Then as ThenWord', Else as ElseWord, True as TrueWord, False as FalseWord, Auth as AuthWord, Unauth as UnauthWord, Fst as FstWord, Snd as SndWord, Len as LenWord, Not as NotWord, VecFill as VecFillWord, VecGet as VecGetWord, VecPut as VecPutWord, Binary as BinaryWord}
 use Rattle.lexemes.specs.declared.token.Mark.TheVariants.{LeftParenthesis, RightParenthesis, Comma, EqualsSign, Bar, Arrow}
 use Rattle.lexemes.specs.Tokens.{Token, KeywordToken, MarkToken, LowerToken, UpperToken, IntToken, TextToken, Tokens, Next, End, Faulty, count}
-use Rattle.auth_syntax.specs.Syntax.{NameSyntax, UnaryOperation, FstOperation, SndOperation, AuthOperation, UnauthOperation, LenOperation, NotOperation, ExpSyntax, UnitSyntax, BoolSyntax, IntSyntax, TextSyntax, LocalSyntax, PairSyntax, UnarySyntax, BinarySyntax, CallSyntax, ConstructorSyntax, LetSyntax, IfSyntax, MatchSyntax, ExpsSyntax, NoExp, AndExp, ArmsSyntax, NoArmSyntax, AndArmSyntax}
-use Rattle.auth_syntax.specs.Grammar.{Written, standing, mark, word, lower, upper, unary_word, bool_word, names_tokens, in_parentheses, expression_tokens, expressions_tokens, arms_tokens, expression_levels, expressions_levels, arms_levels, HasParts, HaveParts, ArmsHaveParts, IsExpression, IsSome}
+use Rattle.auth_syntax.specs.Syntax.{NameSyntax, UnaryOperation, FstOperation, SndOperation, AuthOperation, UnauthOperation, LenOperation, NotOperation, ArrayOperation, FillOperation, GetOperation, PutOperation, ExpSyntax, UnitSyntax, BoolSyntax, IntSyntax, TextSyntax, LocalSyntax, PairSyntax, UnarySyntax, BinarySyntax, CallSyntax, ConstructorSyntax, OperateSyntax, LetSyntax, IfSyntax, MatchSyntax, ExpsSyntax, NoExp, AndExp, ArmsSyntax, NoArmSyntax, AndArmSyntax}
+use Rattle.auth_syntax.specs.Grammar.{Written, standing, mark, word, lower, upper, unary_word, bool_word, length_tokens, names_tokens, in_parentheses, array_word, brackets, others_of, expression_tokens, expressions_tokens, arms_tokens, expression_levels, expressions_levels, arms_levels, has_length, row_length, HasParts, HaveParts, ArmsHaveParts, IsExpression, IsSome}
 use Rattle.lexemes.specs.Readings.{Reading, Found}
-use Rattle.auth_syntax.specs.Parsing.{unary_of, binary_of, in_a_row, read_lower, read_pair, read_call, read_unit_or_pair, read_arm_separator, read_other_arms, read_arms, operation_from, word_from, expression_from, read_expression}
+use Rattle.auth_syntax.specs.Parsing.{unary_of, binary_of, in_a_row, read_lower, read_pair, read_call, read_length, read_operate, read_unit_or_pair, read_arm_separator, read_other_arms, read_arms, operation_from, word_from, expression_from, read_expression}
 use Rattle.auth_syntax.proofs.Beginnings.{Begin, First, begin-none, begin-next, begin-first, begin-parted, begin-as, none-begin}
-use Rattle.auth_syntax.proofs.Readers.{IsClear, IsReader, Reader, Row, Done, ThenMark, ThenWord, ThenLower, ThenUpper, Then, Last, Things, made, row_written, row_within, read_row, row_sound, row_complete, lower_found, lower_reads, clear_first}
+use Rattle.auth_syntax.proofs.Readers.{IsClear, IsReader, Reader, Row, Done, ThenMark, ThenWord, ThenLower, ThenUpper, Then, Last, Things, made, row_written, row_within, read_row, row_sound, row_complete, in_turn, lower_found, lower_reads, clear_first}
 use Rattle.auth_syntax.proofs.Lists.{IsListed, list, optional, refused_found, begins_fit}
 use Rattle.auth_syntax.proofs.Heads.{found_is, head_is, one_written}
+use Rattle.auth_syntax.proofs.Lengths.{length_row, length_row-is}
+use Rattle.auth_syntax.proofs.SoMany.{so_many}
 
 -- names
 pub names_are : (limit : ℕ) → IsReader limit (λ at_most. read_lower) (λ name. lower name ∷ []) (λ at_most name. Unit {0})
@@ -50,6 +53,7 @@ expression_tokens-some (UnarySyntax at operation operand) = omega arith
 expression_tokens-some (BinarySyntax at operation first second) = omega arith
 expression_tokens-some (CallSyntax at name operands) = omega arith
 expression_tokens-some (ConstructorSyntax at name operands) = omega arith
+expression_tokens-some (OperateSyntax at operation operands) = omega arith
 expression_tokens-some (LetSyntax at name bound body) = omega arith
 expression_tokens-some (IfSyntax at test first other) = omega arith
 expression_tokens-some (MatchSyntax at subject arms) = omega arith
@@ -65,6 +69,7 @@ expression_levels-some (UnarySyntax at operation operand) = omega arith
 expression_levels-some (BinarySyntax at operation first second) = omega arith
 expression_levels-some (CallSyntax at name operands) = omega arith
 expression_levels-some (ConstructorSyntax at name operands) = omega arith
+expression_levels-some (OperateSyntax at operation operands) = omega arith
 expression_levels-some (LetSyntax at name bound body) = omega arith
 expression_levels-some (IfSyntax at test first other) = omega arith
 expression_levels-some (MatchSyntax at subject arms) = omega arith
@@ -90,6 +95,7 @@ not_closing (UnarySyntax at operation operand) tokens left begin = not_closing_f
 not_closing (BinarySyntax at operation first second) tokens left begin = not_closing_first tokens _ _ left (begin-first begin) tt
 not_closing (CallSyntax at name operands) tokens left begin = not_closing_first tokens _ _ left (begin-first begin) tt
 not_closing (ConstructorSyntax at name operands) tokens left begin = not_closing_first tokens _ _ left (begin-first begin) tt
+not_closing (OperateSyntax at operation operands) tokens left begin = not_closing_first tokens _ _ left (begin-first begin) tt
 not_closing (LetSyntax at name bound body) tokens left begin = not_closing_first tokens _ _ left (begin-first begin) tt
 not_closing (IfSyntax at test first other) tokens left begin = not_closing_first tokens _ _ left (begin-first begin) tt
 not_closing (MatchSyntax at subject arms) tokens left begin = not_closing_first tokens _ _ left (begin-first begin) tt
@@ -103,21 +109,23 @@ in_a_row-from : (es : ExpsSyntax) → in_a_row (from_row es) ≡ es
 in_a_row-from NoExp = refl
 in_a_row-from (AndExp e rest) = ap (AndExp e) (in_a_row-from rest)
 
--- the words of operations
-some_is : {A : Type 0} {a b : A} → Some a ≡ Some b → a ≡ b
-some_is h = cc
+-- a row is as long as its list
+pub row_length-is : (es : List ExpSyntax) → row_length (in_a_row es) ≡ length es
+row_length-is [] = refl
+row_length-is (e ∷ rest) = ap suc (row_length-is rest)
 
+-- the words of operations
 pub unary_of-word : (keyword : Keyword) (operation : UnaryOperation) → unary_of keyword ≡ Some operation → keyword ≡ unary_word operation
-unary_of-word FstWord operation h = ap unary_word (some_is h)
-unary_of-word SndWord operation h = ap unary_word (some_is h)
-unary_of-word AuthWord operation h = ap unary_word (some_is h)
-unary_of-word UnauthWord operation h = ap unary_word (some_is h)
-unary_of-word LenWord operation h = ap unary_word (some_is h)
-unary_of-word NotWord operation h = ap unary_word (some_is h)
+unary_of-word FstWord operation h = ap unary_word (same_Some _ _ h)
+unary_of-word SndWord operation h = ap unary_word (same_Some _ _ h)
+unary_of-word AuthWord operation h = ap unary_word (same_Some _ _ h)
+unary_of-word UnauthWord operation h = ap unary_word (same_Some _ _ h)
+unary_of-word LenWord operation h = ap unary_word (same_Some _ _ h)
+unary_of-word NotWord operation h = ap unary_word (same_Some _ _ h)
 unary_of-word keyword operation h = absurd (cc)
 
 pub binary_of-word : (keyword : Keyword) (operation : BinaryOperator) → binary_of keyword ≡ Some operation → keyword ≡ BinaryWord operation
-binary_of-word (BinaryWord found) operation h = ap BinaryWord (some_is h)
+binary_of-word (BinaryWord found) operation h = ap BinaryWord (same_Some _ _ h)
 binary_of-word keyword operation h = absurd (cc)
 
 -- the arms behind their first bar, with the `end` that ends them, as they are read
@@ -332,6 +340,21 @@ module _ (levels : ℕ) (parts : AreExpressionsRead levels) where
   abbrev pub constructor_row : Place → List ℕ → Row levels ExpSyntax
   constructor_row at name = Last optional_operands (λ es. ConstructorSyntax at name (in_a_row es))
 
+  -- behind the word of an operation on arrays, or behind the length of an array that is filled
+  abbrev pub so_many_operands : ℕ → Reader levels
+  so_many_operands = so_many levels read_expression expression_tokens IsExpression parts row_tokens row_parts (expressions_listed levels)
+
+  abbrev pub operate_row : Place → ArrayOperation → Row levels ExpSyntax
+  operate_row at operation = ThenMark LeftParenthesis (Last (so_many_operands (others_of operation)) (λ es. OperateSyntax at operation (in_a_row es)))
+
+  abbrev pub fill_row : Place → Row levels ExpSyntax
+  fill_row at = length_row (λ n. operate_row at (FillOperation n))
+
+  pub fill_row-is : (at : Place) (at_most : ℕ) (tokens : Tokens)
+      → read_operate (read_expression at_most) at VecFillWord tokens ≡ read_row (fill_row at) at_most tokens
+  fill_row-is at at_most tokens =
+      in_turn (read_length tokens) (λ n rest. Found (FillOperation n) rest) _ ∙ length_row-is (λ n. operate_row at (FillOperation n)) at_most tokens
+
   abbrev pub let_row : Place → Row levels ExpSyntax
   let_row at =
       ThenLower (λ name. ThenMark EqualsSign (Then (parts_of levels parts) (λ bound. ThenWord InWord
@@ -407,6 +430,10 @@ module _ (levels : ℕ) (parts : AreExpressionsRead levels) where
   call_parts at name [] some hs = absurd some
   call_parts at name (e ∷ es) some hs = hs
 
+  pub operate_parts : (at : Place) (operation : ArrayOperation) (es : List ExpSyntax) → has_length operation ≡ true
+      → length es ≡ suc (others_of operation) → HaveParts (in_a_row es) → HasParts (OperateSyntax at operation (in_a_row es))
+  operate_parts at operation es fits many hs = (fits, row_length-is es ∙ many, hs)
+
   -- behind a parenthesis: its end, or a pair
   pair_found : (at : Place) (rest : Tokens) (found : ExpSyntax) (left : Tokens)
       → read_pair (read_expression levels) at rest ≡ Found found left → IsFrom at (MarkToken LeftParenthesis) rest found left
@@ -464,6 +491,16 @@ module _ (levels : ℕ) (parts : AreExpressionsRead levels) where
   word_found at MatchWord rest found left e =
       row_from at (KeywordToken MatchWord) (match_row at)
       (λ t w. (match_written at t.0 t.1 w.1.0, (match_parts at t.0 t.1 w.1.0 w.0.0 w.1.1, omega (arith, w.0.1, w.1.2)))) rest found left e
+  word_found at VecFillWord rest found left e =
+      row_from at (KeywordToken VecFillWord) (fill_row at)
+      (λ t w. (refl, (operate_parts at (FillOperation t.0) t.1 w.0 w.1.0 w.1.1.0, omega (arith, w.1.1.1)))) rest found left
+      (sym (fill_row-is at levels rest) ∙ e)
+  word_found at VecGetWord rest found left e =
+      row_from at (KeywordToken VecGetWord) (operate_row at GetOperation)
+      (λ t w. (refl, (operate_parts at GetOperation t refl w.0 w.1.0, omega (arith, w.1.1)))) rest found left e
+  word_found at VecPutWord rest found left e =
+      row_from at (KeywordToken VecPutWord) (operate_row at PutOperation)
+      (λ t w. (refl, (operate_parts at PutOperation t refl w.0 w.1.0, omega (arith, w.1.1)))) rest found left e
   word_found at keyword rest found left e = operation_found at keyword (unary_of keyword) (binary_of keyword) refl refl rest found left e
 
   expression_found : (at : Place) (token : Token) (rest : Tokens) (found : ExpSyntax) (left : Tokens)
@@ -514,6 +551,26 @@ module _ (levels : ℕ) (parts : AreExpressionsRead levels) where
   row_fits : (es : ExpsSyntax) → HaveParts es → expressions_levels es ≤ levels → row_parts levels (from_row es)
   row_fits es h h' =
       (subst HaveParts (sym (in_a_row-from es)) h, subst (λ (es : ExpsSyntax). expressions_levels es ≤ levels) (sym (in_a_row-from es)) h')
+
+  operands_fit : (operation : ArrayOperation) (es : ExpsSyntax) → row_length es ≡ suc (others_of operation) → HaveParts es → expressions_levels es ≤ levels
+      → (length (from_row es) ≡ suc (others_of operation)) × row_parts levels (from_row es)
+  operands_fit operation es many h h' =
+      (sym (row_length-is (from_row es)) ∙ (ap row_length (in_a_row-from es) ∙ many), row_fits es h h')
+
+  -- behind the word of an operation on arrays that has no length of its own
+  operate_complete : (at : Place) (operation : ArrayOperation)
+      → ((rest : Tokens) → word_from (read_expression levels) at (array_word operation) rest ≡ read_row (operate_row at operation) levels rest)
+      → brackets operation ≡ [] → (es : ExpsSyntax) (tokens left : Tokens) → Begin tokens (expression_tokens (OperateSyntax at operation es)) left
+      → IsExpression (suc levels) (OperateSyntax at operation es) → IsClear left → read_expression (suc levels) tokens ≡ Found (OperateSyntax at operation es) left
+  operate_complete at operation word_is bare es tokens left begin within clear =
+      let f = begin-first begin in
+      from at _ _ tokens left _ f
+      (word_is f.rest
+      ∙ row_complete (operate_row at operation) tt (from_row es) f.rest left
+      (begin-as (ap (λ (ws : List Written). ws ++ mark LeftParenthesis ∷ expressions_tokens es ++ mark RightParenthesis ∷ []) bare
+      ∙ ap (λ (es : ExpsSyntax). mark LeftParenthesis ∷ (expressions_tokens es ++ (mark RightParenthesis ∷ []))) (sym (in_a_row-from es))) f.begin)
+      (operands_fit operation es within.0.1 within.0.2 (omega (arith, within.1))) clear
+      ∙ ap (λ es. Found (OperateSyntax at operation es) left) (in_a_row-from es))
 
   expression_complete : (e : ExpSyntax) (tokens left : Tokens) → Begin tokens (expression_tokens e) left → IsExpression (suc levels) e
       → IsClear left → read_expression (suc levels) tokens ≡ Found e left
@@ -567,6 +624,17 @@ module _ (levels : ℕ) (parts : AreExpressionsRead levels) where
       (begin-as (ap (λ (es : ExpsSyntax). in_parentheses (expressions_tokens es)) (sym (in_a_row-from es))) f.begin)
       (row_fits es within.0 (omega (arith, within.1))) clear
       ∙ ap (λ es. Found (ConstructorSyntax at name es) left) (in_a_row-from es))
+  expression_complete (OperateSyntax at (FillOperation n) es) tokens left begin within clear =
+      let f = begin-first begin in
+      from at _ _ tokens left _ f
+      (fill_row-is at levels f.rest
+      ∙ row_complete (fill_row at) (λ n. (refl, tt)) (n, from_row es) f.rest left
+      (begin-as (ap (λ (es : ExpsSyntax). length_tokens n ++ (mark LeftParenthesis ∷ (expressions_tokens es ++ (mark RightParenthesis ∷ []))))
+      (sym (in_a_row-from es))) f.begin)
+      (within.0.0, operands_fit (FillOperation n) es within.0.1 within.0.2 (omega (arith, within.1))) clear
+      ∙ ap (λ es. Found (OperateSyntax at (FillOperation n) es) left) (in_a_row-from es))
+  expression_complete (OperateSyntax at GetOperation es) tokens left begin within clear = operate_complete at GetOperation (λ rest. refl) refl es tokens left begin within clear
+  expression_complete (OperateSyntax at PutOperation es) tokens left begin within clear = operate_complete at PutOperation (λ rest. refl) refl es tokens left begin within clear
   expression_complete (LetSyntax at name bound body) tokens left begin within clear =
       let f = begin-first begin in
       from at _ _ tokens left _ f

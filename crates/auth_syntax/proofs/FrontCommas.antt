@@ -12,7 +12,7 @@ use Rattle.auth_syntax.specs.Parsing.{read_bar, read_arm_separator, read_list, r
 use Rattle.auth_syntax.specs.FirstFaults.{placed, joined, AreFirst}
 use Rattle.auth_syntax.proofs.Readers.{IsClear, Reader, found_thing, found_left}
 use Rattle.auth_syntax.proofs.Lists.{IsListed, commas, read_separated, read_list-is, in_parentheses-some}
-use Rattle.auth_syntax.proofs.Fronts.{SameHead, CanBegin, Taken, Stuck, IsLocal, stuck_behind, IsOneToken}
+use Rattle.auth_syntax.proofs.Fronts.{AlikeHeads, heads_hold, CanBegin, Taken, Stuck, IsLocal, stuck_behind, IsOneToken}
 use Rattle.auth_syntax.proofs.FrontLists.{counted_local}
 
 abbrev IsDecided : (Tokens → Reading Bool) → Place → Token → Type 0
@@ -21,21 +21,21 @@ IsDecided reads at token =
     ⊎ ((rest : Tokens) → reads (Next at token rest) ≡ FaultAt Expected at)
 
 pub comma_one : IsOneToken read_separator
-comma_one = record { decided = decided; at_end = λ at. refl; at_fault = λ at fault. refl } where
+comma_one = record { decided = decided; at_end = λ at. refl; at_fault = λ at fault. refl; no_length = λ at rest. refl } where
   decided : (at : Place) (token : Token) → IsDecided read_separator at token
   decided at (MarkToken Comma) = inl (true, λ rest. refl)
   decided at (MarkToken RightParenthesis) = inl (false, λ rest. refl)
   decided at token = inr (λ rest. refl)
 
 pub bar_one : IsOneToken read_bar
-bar_one = record { decided = decided; at_end = λ at. refl; at_fault = λ at fault. refl } where
+bar_one = record { decided = decided; at_end = λ at. refl; at_fault = λ at fault. refl; no_length = λ at rest. refl } where
   decided : (at : Place) (token : Token) → IsDecided read_bar at token
   decided at (MarkToken Bar) = inl (true, λ rest. refl)
   decided at (MarkToken Semicolon) = inl (false, λ rest. refl)
   decided at token = inr (λ rest. refl)
 
 pub arm_one : IsOneToken read_arm_separator
-arm_one = record { decided = decided; at_end = λ at. refl; at_fault = λ at fault. refl } where
+arm_one = record { decided = decided; at_end = λ at. refl; at_fault = λ at fault. refl; no_length = λ at rest. refl } where
   decided : (at : Place) (token : Token) → IsDecided read_arm_separator at token
   decided at (MarkToken Bar) = inl (true, λ rest. refl)
   decided at (KeywordToken EndWord) = inl (false, λ rest. refl)
@@ -70,12 +70,11 @@ paren_or_clear (Next at token rest) = inr tt
 paren_or_clear (End at) = inr tt
 paren_or_clear (Faulty at fault) = inr tt
 
-pub clear_same : (left other : Tokens) → SameHead left other → IsClear left → IsClear other
-clear_same left other h clear =
-    subst IsClear (sym h.other_is) (moved h.at h.token (subst IsClear h.is clear)) where
-      moved : (at : Place) (token : Token) → IsClear (Next at token h.rest) → IsClear (Next at token h.rest')
-      moved at (MarkToken LeftParenthesis) clear = clear
-      moved at token clear = tt
+pub clear_same : (left other : Tokens) → AlikeHeads left other → IsClear left → IsClear other
+clear_same left other h clear = heads_hold IsClear left other h (λ at z rest. tt) moved clear where
+  moved : (at : Place) (token : Token) (rest rest' : Tokens) → IsClear (Next at token rest) → IsClear (Next at token rest')
+  moved at (MarkToken LeftParenthesis) rest rest' clear = clear
+  moved at token rest rest' clear = tt
 
 module _ (limit : ℕ) (one : Reader limit) (all : List one.A → List Written) (all_within : ℕ → List one.A → Type 0)
     (listed : (n : ℕ) → IsListed n (mark Comma) one.written one.within all all_within)

@@ -18,7 +18,7 @@ use Rattle.auth_syntax.proofs.FrontRows.{some_name}
 use Rattle.auth_syntax.proofs.Productions.{HasSome, IsHeaded, token_taken, token_stuck, token_refused, rest_refused, row_local}
 use Rattle.auth_syntax.proofs.FrontLists.{counted_local}
 use Rattle.auth_syntax.proofs.FrontCommas.{bar_one, list_local, optional_local}
-use Rattle.auth_syntax.proofs.FrontTypes.{types_local}
+use Rattle.auth_syntax.proofs.FrontTypes.{type_widen, types_local}
 use Rattle.auth_syntax.proofs.FrontExpressions.{expressions_local}
 
 abbrev some_place : Place
@@ -33,11 +33,11 @@ some_constructor = record { name = some_name; fields = [] }
 -- what is within a limit is within a wider one
 types_widen : (n wider : ℕ) (ts : List TypeSyntax) → n ≤ wider → AreTypes n ts → AreTypes wider ts
 types_widen n wider [] h fits = tt
-types_widen n wider (t ∷ rest) h fits = (omega (arith, fits.0), types_widen n wider rest h fits.1)
+types_widen n wider (t ∷ rest) h fits = (type_widen n wider t h fits.0, types_widen n wider rest h fits.1)
 
 parameters_widen : (n wider : ℕ) (ps : List ParameterSyntax) → n ≤ wider → AreParameters n ps → AreParameters wider ps
 parameters_widen n wider [] h fits = tt
-parameters_widen n wider (p ∷ rest) h fits = (omega (arith, fits.0), parameters_widen n wider rest h fits.1)
+parameters_widen n wider (p ∷ rest) h fits = (type_widen n wider p.of_type h fits.0, parameters_widen n wider rest h fits.1)
 
 constructors_widen : (n wider : ℕ) (cs : List ConstructorDeclaration) → n ≤ wider → AreConstructors n cs → AreConstructors wider cs
 constructors_widen n wider [] h fits = tt
@@ -45,11 +45,11 @@ constructors_widen n wider (c ∷ rest) h fits = (types_widen n wider c.fields h
 
 pub declaration_widen : (n wider : ℕ) (d : DeclarationSyntax) → n ≤ wider → IsDeclaration n d → IsDeclaration wider d
 declaration_widen n wider (TypeDeclaration at name constructors) h fits = (fits.0, constructors_widen n wider constructors h fits.1)
-declaration_widen n wider (StateDeclaration at of_type) h fits = omega (arith, fits)
+declaration_widen n wider (StateDeclaration at of_type) h fits = type_widen n wider of_type h fits
 declaration_widen n wider (FunctionDeclaration at function) h fits = record {
   has_parameter = fits.has_parameter;
   parameters = parameters_widen n wider function.parameters h fits.parameters;
-  result_type = omega (arith, fits.result_type);
+  result_type = type_widen n wider function.result_type h fits.result_type;
   body = (fits.body.0, omega (arith, fits.body.1));
 }
 
@@ -57,7 +57,7 @@ module _ (limit : ℕ) where
   parameter_local : IsLocal limit (read_row (parameter_row limit)) parameter_tokens (is_parameter limit)
   parameter_local =
       row_local limit (parameter_row limit) parameter_tokens (is_parameter limit) (λ name. types_local limit) (λ n things fits. (refl, fits))
-      some_parameter (λ n. omega arith) (λ n wider p h fits. omega (arith, fits))
+      some_parameter (λ n. (tt, omega arith)) (λ n wider p h fits. type_widen n wider p.of_type h fits)
 
   parameter_list_local : IsLocal limit (parameter_list limit).read (parameter_list limit).written (parameter_list limit).within
   parameter_list_local =
@@ -78,8 +78,8 @@ module _ (limit : ℕ) where
       row_local limit (function_row limit kind) (function_written limit) (is_of_kind limit kind)
       (λ name. (parameter_list_local, λ parameters. (types_local limit, λ result_type. (expressions_local limit, λ body. tt))))
       (λ n t w. (refl, (refl, w.0.0, w.0.1, w.1.0, w.1.1.0)))
-      (some_function kind) (λ n. (refl, tt, (omega arith, tt), omega arith, (tt, omega arith)))
-      (λ n wider f h fits. (fits.0, fits.1, parameters_widen n wider f.parameters h fits.2, omega (arith, fits.3), (fits.4.0, omega (arith, fits.4.1))))
+      (some_function kind) (λ n. (refl, tt, ((tt, omega arith), tt), (tt, omega arith), (tt, omega arith)))
+      (λ n wider f h fits. (fits.0, fits.1, parameters_widen n wider f.parameters h fits.2, type_widen n wider f.result_type h fits.3, (fits.4.0, omega (arith, fits.4.1))))
 
   field_types_local : IsLocal limit (field_types limit).read (field_types limit).written (field_types limit).within
   field_types_local =
@@ -103,7 +103,7 @@ module _ (limit : ℕ) where
   is_declared = IsDeclaration
 
   some_is : HasSome limit read declaration_tokens is_declared
-  some_is = record { some = StateDeclaration some_place (UnitTypeSyntax some_place); some_fits = λ n. omega arith }
+  some_is = record { some = StateDeclaration some_place (UnitTypeSyntax some_place); some_fits = λ n. (tt, omega arith) }
 
   abbrev Headed : Place → Token → Row limit DeclarationSyntax → Type 0
   Headed = IsHeaded limit read declaration_tokens is_declared
@@ -165,7 +165,7 @@ module _ (limit : ℕ) where
   token_not_declared at (KeywordToken InitWord) rest kind place e = token_stuck limit read declaration_tokens is_declared at _ _ (init_is at) rest kind place e
   token_not_declared at (KeywordToken QueryWord) rest kind place e = token_stuck limit read declaration_tokens is_declared at _ _ (query_is at) rest kind place e
   token_not_declared at (KeywordToken UpdateWord) rest kind place e = token_stuck limit read declaration_tokens is_declared at _ _ (update_is at) rest kind place e
-  token_not_declared at token rest kind place e = token_refused limit read declaration_tokens is_declared some_is at token rest kind place (λ wider rest. refl) e
+  token_not_declared at token rest kind place e = token_refused limit read declaration_tokens is_declared some_is at token rest kind place (λ wider rest. refl) (λ int wider rest. refl) e
 
   declaration_stuck : (before : Tokens) (kind : SyntaxKind) (place : Place) → read limit before ≡ FaultAt kind place
       → Stuck limit read (CanBegin declaration_tokens is_declared) before kind place
@@ -179,6 +179,6 @@ module _ (limit : ℕ) where
     taken = declaration_taken;
     stuck = declaration_stuck;
     some = StateDeclaration some_place (UnitTypeSyntax some_place);
-    some_fits = λ n. omega arith;
+    some_fits = λ n. (tt, omega arith);
     widen = declaration_widen;
   }

@@ -5,22 +5,24 @@ use Rattle.lexemes.specs.declared.place.Place.{Place}
 use Rattle.lexemes.specs.declared.fault.SyntaxKind.{SyntaxKind}
 use Rattle.lexemes.specs.declared.fault.SyntaxKind.TheVariants.{Expected}
 use Rattle.lexemes.specs.declared.token.Keyword.{Keyword}
-use Rattle.lexemes.specs.declared.token.Keyword.TheVariants.{Let as LetWord, In as InWord, Match as MatchWord, With as WithWord, End as EndWord, If as IfWord, Then as ThenWord', Else as ElseWord, True as TrueWord, False as FalseWord}
+use Rattle.lexemes.specs.declared.token.Keyword.TheVariants.{Let as LetWord, In as InWord, Match as MatchWord, With as WithWord, End as EndWord, If as IfWord, Then as ThenWord', Else as ElseWord, True as TrueWord, False as FalseWord, VecFill as VecFillWord, VecGet as VecGetWord, VecPut as VecPutWord}
 use Rattle.lexemes.specs.declared.token.Mark.TheVariants.{LeftParenthesis, RightParenthesis, Comma, EqualsSign}
 use Rattle.lexemes.specs.Tokens.{Token, KeywordToken, MarkToken, LowerToken, UpperToken, IntToken, TextToken, Tokens, Next, End, Faulty}
-use Rattle.auth_syntax.specs.Syntax.{UnaryOperation, ExpSyntax, UnitSyntax, BoolSyntax, IntSyntax, TextSyntax, LocalSyntax, UnarySyntax, BinarySyntax, ConstructorSyntax, LetSyntax, IfSyntax, MatchSyntax, NoExp, NoArmSyntax, AndArmSyntax}
-use Rattle.auth_syntax.specs.Grammar.{Written, standing, mark, word, lower, expression_tokens, arms_tokens, IsExpression}
+use Rattle.auth_syntax.specs.Syntax.{UnaryOperation, ArrayOperation, FillOperation, GetOperation, PutOperation, ExpSyntax, UnitSyntax, BoolSyntax, IntSyntax, TextSyntax, LocalSyntax, UnarySyntax, BinarySyntax, ConstructorSyntax, OperateSyntax, LetSyntax, IfSyntax, MatchSyntax, ExpsSyntax, NoExp, AndExp, NoArmSyntax, AndArmSyntax}
+use Rattle.auth_syntax.specs.Grammar.{Written, standing, mark, word, lower, array_word, brackets, others_of, expression_tokens, expressions_tokens, arms_tokens, expressions_levels, has_length, row_length, HaveParts, IsExpression}
 use Rattle.lexemes.specs.Readings.{Reading, Found, FaultAt}
 use Rattle.auth_syntax.specs.Parsing.{unary_of, binary_of, operation_from, read_expression, begins_expression, operation_begins, word_begins}
-use Rattle.auth_syntax.specs.FirstFaults.{Placed, placed}
+use Rattle.auth_syntax.specs.FirstFaults.{Placed, placed, IsInt}
 use Rattle.auth_syntax.proofs.Readers.{IsClear, Row, Done, read_row, row_written, found_thing, found_left}
-use Rattle.auth_syntax.proofs.Expressions.{AreExpressionsRead, expressions_are, expressions_listed, row_tokens, row_parts, pair_row, unary_row, binary_row, call_row, constructor_row, let_row, if_row, match_row, pair_written, binary_written, let_written, if_written, match_written, match_parts, call_parts, unary_of-word, binary_of-word, IsNotClosing, parts_of}
-use Rattle.auth_syntax.proofs.Fronts.{SameHead, CanBegin, Taken, Stuck, IsLocal}
+use Rattle.auth_syntax.proofs.Expressions.{AreExpressionsRead, expressions_are, expressions_listed, row_tokens, row_parts, pair_row, unary_row, binary_row, call_row, constructor_row, so_many_operands, operate_row, fill_row, fill_row-is, operate_parts, let_row, if_row, match_row, pair_written, binary_written, let_written, if_written, match_written, match_parts, call_parts, unary_of-word, binary_of-word, IsNotClosing, parts_of}
+use Rattle.auth_syntax.proofs.Fronts.{AlikeHeads, heads_hold, CanBegin, Taken, a_length, Stuck, IsLocal}
 use Rattle.auth_syntax.proofs.FrontRows.{some_name}
 use Rattle.auth_syntax.proofs.Productions.{HasSome, IsRead, IsHeaded, read_taken, read_stuck, token_taken, token_stuck, token_refused, rest_refused}
 use Rattle.auth_syntax.proofs.Levels.{outer_taken, outer_stuck, zero_stuck}
 use Rattle.auth_syntax.proofs.FrontCommas.{list_local, optional_local, clear_same}
 use Rattle.auth_syntax.proofs.FrontArms.{arms_local}
+use Rattle.auth_syntax.proofs.FrontLengths.{ints_local}
+use Rattle.auth_syntax.proofs.FrontSoMany.{many_local}
 use Rattle.auth_syntax.proofs.LevelSteps.{read_expression-none}
 
 abbrev some_expression : ExpSyntax
@@ -33,11 +35,11 @@ closing_or_not (Next at token rest) = inr tt
 closing_or_not (End at) = inr tt
 closing_or_not (Faulty at fault) = inr tt
 
-not_closing_same : (left other : Tokens) → SameHead left other → IsNotClosing left → IsNotClosing other
-not_closing_same left other h clear = subst IsNotClosing (sym h.other_is) (moved h.at h.token (subst IsNotClosing h.is clear)) where
-  moved : (at : Place) (token : Token) → IsNotClosing (Next at token h.rest) → IsNotClosing (Next at token h.rest')
-  moved at (MarkToken RightParenthesis) clear = clear
-  moved at token clear = tt
+not_closing_same : (left other : Tokens) → AlikeHeads left other → IsNotClosing left → IsNotClosing other
+not_closing_same left other h clear = heads_hold IsNotClosing left other h (λ at z rest. tt) moved clear where
+  moved : (at : Place) (token : Token) (rest rest' : Tokens) → IsNotClosing (Next at token rest) → IsNotClosing (Next at token rest')
+  moved at (MarkToken RightParenthesis) rest rest' clear = clear
+  moved at token rest rest' clear = tt
 
 abbrev pub AreExpressionsLocal : ℕ → Type 0
 AreExpressionsLocal levels = IsLocal levels read_expression expression_tokens IsExpression
@@ -119,7 +121,32 @@ module _ (levels : ℕ) (local : AreExpressionsLocal levels) where
     reads = λ wider rest. refl;
   }
 
-  -- the operations
+  -- the operations on arrays
+  some_operands : (n : ℕ) → IsLocal levels (so_many_operands levels parts n).read (so_many_operands levels parts n).written (so_many_operands levels parts n).within
+  some_operands = many_local levels read_expression expression_tokens IsExpression parts row_tokens row_parts expressions_listed local row_widen
+
+  fill_is : (at : Place) → Headed at (KeywordToken VecFillWord) (fill_row levels parts at)
+  fill_is at = record {
+    local = (ints_local levels, λ n. some_operands 0);
+    makes = λ n t w. (refl, (operate_parts levels parts at (FillOperation t.0) t.1 w.0 w.1.0 w.1.1.0, omega (arith, w.1.1.1)));
+    reads = fill_row-is levels parts at;
+  }
+
+  get_is : (at : Place) → Headed at (KeywordToken VecGetWord) (operate_row levels parts at GetOperation)
+  get_is at = record {
+    local = some_operands 1;
+    makes = λ n es w. (refl, (operate_parts levels parts at GetOperation es refl w.0 w.1.0, omega (arith, w.1.1)));
+    reads = λ wider rest. refl;
+  }
+
+  put_is : (at : Place) → Headed at (KeywordToken VecPutWord) (operate_row levels parts at PutOperation)
+  put_is at = record {
+    local = some_operands 2;
+    makes = λ n es w. (refl, (operate_parts levels parts at PutOperation es refl w.0 w.1.0, omega (arith, w.1.1)));
+    reads = λ wider rest. refl;
+  }
+
+  -- the other operations
   abbrev ReadsOperation : Place → Keyword → Type 0
   ReadsOperation at keyword =
       (wider : ℕ) (rest : Tokens) → outer wider (Next at (KeywordToken keyword) rest)
@@ -173,7 +200,7 @@ module _ (levels : ℕ) (local : AreExpressionsLocal levels) where
       (binary_is at keyword operation h h' reads) rest kind place e
   operation_stuck at keyword reads None None h h' rest kind place e =
       token_refused levels outer expression_tokens is_outer (some_is levels) at (KeywordToken keyword) rest kind place
-      (λ wider rest. reads wider rest ∙ ap₂ (λ unary binary. operation_from (read_expression wider) at unary binary rest) h h') e
+      (λ wider rest. reads wider rest ∙ ap₂ (λ unary binary. operation_from (read_expression wider) at unary binary rest) h h') (λ int. absurd int) e
 
   word_taken : (at : Place) (keyword : Keyword) (rest : Tokens) (found : ExpSyntax) (left : Tokens)
       → outer levels (Next at (KeywordToken keyword) rest) ≡ Found found left → IsTakenAs (Next at (KeywordToken keyword) rest) found left
@@ -184,6 +211,9 @@ module _ (levels : ℕ) (local : AreExpressionsLocal levels) where
   word_taken at LetWord rest found left e = token_taken levels outer expression_tokens is_outer at _ _ (let_is at) rest found left e
   word_taken at IfWord rest found left e = token_taken levels outer expression_tokens is_outer at _ _ (if_is at) rest found left e
   word_taken at MatchWord rest found left e = token_taken levels outer expression_tokens is_outer at _ _ (match_is at) rest found left e
+  word_taken at VecFillWord rest found left e = token_taken levels outer expression_tokens is_outer at _ _ (fill_is at) rest found left e
+  word_taken at VecGetWord rest found left e = token_taken levels outer expression_tokens is_outer at _ _ (get_is at) rest found left e
+  word_taken at VecPutWord rest found left e = token_taken levels outer expression_tokens is_outer at _ _ (put_is at) rest found left e
   word_taken at keyword rest found left e =
       operation_taken at keyword (λ wider rest. refl) (unary_of keyword) (binary_of keyword) refl refl rest found left e
 
@@ -199,6 +229,12 @@ module _ (levels : ℕ) (local : AreExpressionsLocal levels) where
       token_stuck levels outer expression_tokens is_outer at _ _ (if_is at) rest kind place e
   word_stuck at MatchWord rest kind place e =
       token_stuck levels outer expression_tokens is_outer at _ _ (match_is at) rest kind place e
+  word_stuck at VecFillWord rest kind place e =
+      token_stuck levels outer expression_tokens is_outer at _ _ (fill_is at) rest kind place e
+  word_stuck at VecGetWord rest kind place e =
+      token_stuck levels outer expression_tokens is_outer at _ _ (get_is at) rest kind place e
+  word_stuck at VecPutWord rest kind place e =
+      token_stuck levels outer expression_tokens is_outer at _ _ (put_is at) rest kind place e
   word_stuck at keyword rest kind place e =
       operation_stuck at keyword (λ wider rest. refl) (unary_of keyword) (binary_of keyword) refl refl rest kind place e
 
@@ -309,7 +345,7 @@ module _ (levels : ℕ) (local : AreExpressionsLocal levels) where
       token_stuck levels outer expression_tokens is_outer at _ _ (text_leaf at bytes) rest kind place e
   expression_stuck at (KeywordToken keyword) rest kind place e = word_stuck at keyword rest kind place e
   expression_stuck at token rest kind place e =
-      token_refused levels outer expression_tokens is_outer (some_is levels) at token rest kind place (λ wider rest. refl) e
+      token_refused levels outer expression_tokens is_outer (some_is levels) at token rest kind place (λ wider rest. refl) (λ int. absurd int) e
 
   all_taken : (before : Tokens) (found : ExpSyntax) (left : Tokens) → outer levels before ≡ Found found left → IsTakenAs before found left
   all_taken (Next at token rest) found left e = expression_taken at token rest found left e
@@ -343,6 +379,15 @@ operation_started at keyword None (Some operation) h h' b = record {
 }
 operation_started at keyword None None h h' b = absurd (cc)
 
+operate_started : (at : Place) (operation : ArrayOperation) (operands : ExpsSyntax) → has_length operation ≡ true
+    → row_length operands ≡ suc (others_of operation) → HaveParts operands → expressions_levels operands ≤ 1 → Starts at (KeywordToken (array_word operation))
+operate_started at operation operands fits many parts levels = record {
+  thing = OperateSyntax at operation operands;
+  others = brackets operation ++ mark LeftParenthesis ∷ expressions_tokens operands ++ mark RightParenthesis ∷ [];
+  are_first = (refl, refl, refl);
+  fits = ((fits, many, parts), omega arith);
+}
+
 word_started : (at : Place) (keyword : Keyword) → word_begins keyword ≡ true → Starts at (KeywordToken keyword)
 word_started at TrueWord h = record { thing = BoolSyntax at true; others = []; are_first = (refl, refl, refl); fits = (tt, omega arith) }
 word_started at FalseWord h = record { thing = BoolSyntax at false; others = []; are_first = (refl, refl, refl); fits = (tt, omega arith) }
@@ -364,6 +409,10 @@ word_started at MatchWord h = record {
   are_first = (refl, refl, refl);
   fits = ((tt, (tt, tt)), omega arith);
 }
+word_started at VecFillWord h = operate_started at (FillOperation 64) (AndExp some_expression NoExp) refl refl (tt, tt) (omega arith)
+word_started at VecGetWord h = operate_started at GetOperation (AndExp some_expression (AndExp some_expression NoExp)) refl refl (tt, (tt, tt)) (omega arith)
+word_started at VecPutWord h =
+    operate_started at PutOperation (AndExp some_expression (AndExp some_expression (AndExp some_expression NoExp))) refl refl (tt, (tt, (tt, tt))) (omega arith)
 word_started at keyword h = operation_started at keyword (unary_of keyword) (binary_of keyword) refl refl h
 
 started : (at : Place) (token : Token) → begins_expression token ≡ true → Starts at token
@@ -379,6 +428,10 @@ started at token h = absurd (cc)
 never : (at : Place) (token : Token) → begins_expression token ≡ false → (wider : ℕ) (rest : Tokens)
     → read_expression (suc wider) (Next at token rest) ≡ FaultAt Expected at
 never at token h wider rest = read_expression-none (suc wider) at token rest h
+
+ints_alike : (token : Token) → IsInt token → begins_expression a_length ≡ begins_expression token
+ints_alike (IntToken z) int = refl
+ints_alike token int = absurd int
 
 none_taken : (before : Tokens) (found : ExpSyntax) (left : Tokens) → read_expression zero before ≡ Found found left
     → Taken zero read_expression (λ e. e) expression_tokens IsExpression before found left
@@ -397,6 +450,7 @@ expressions_local zero = record {
     stops = λ tokens. refl;
     started = started;
     never = never;
+    ints_alike = ints_alike;
   });
   some = some_expression;
   some_fits = λ n. (tt, omega arith);

@@ -9,7 +9,7 @@ use Rattle.auth_syntax.specs.Parsing.{read_others}
 use Rattle.auth_syntax.specs.FirstFaults.{Placed, placed, joined, AreFirst}
 use Rattle.auth_syntax.proofs.Readers.{Reader, gone_on, found_thing, found_left}
 use Rattle.auth_syntax.proofs.Lists.{IsListed, IsSeparator, sign, read_separated, refused_found, behind_first}
-use Rattle.auth_syntax.proofs.Fronts.{joined-append, first-append, first-longer, SameHead, CanBegin, Taken, StuckBy, Fails, IsLocal, stuck_behind_by, IsOneToken, one_taken, one_stuck, kind_is, place_is, front_heads, stuck_on}
+use Rattle.auth_syntax.proofs.Fronts.{joined-append, first-append, first-longer, AlikeHeads, CanBegin, Taken, StuckBy, Fails, IsLocal, stuck_behind_by, IsOneToken, one_taken, one_stuck, kind_is, place_is, front_heads, stuck_on}
 use Rattle.auth_syntax.proofs.FrontRows.{one_before}
 
 -- how many tokens a front has
@@ -53,7 +53,7 @@ module _ (limit : ℕ) (one : Reader limit) (between closing : Written) (all : L
     pub is : before ≡ joined front left
     pub are_all : AreFirst front (how found) []
     pub fits : all_within limit found
-    pub again : (wider : ℕ) → limit ≤ wider → (most : ℕ) → length found ≤ most → (other : Tokens) → SameHead left other
+    pub again : (wider : ℕ) → limit ≤ wider → (most : ℕ) → length found ≤ most → (other : Tokens) → AlikeHeads left other
         → reading most wider (joined front other) ≡ Found found other
 
   ends_here : (most : ℕ) (at : Place) (token : Token) (rest left : Tokens) (found : List one.A)
@@ -122,15 +122,15 @@ module _ (limit : ℕ) (one : Reader limit) (between closing : Written) (all : L
           },
         ) where
           repeated : (first : one.A) (others : List one.A) (front next : List Placed) (middle last : Tokens) → middle ≡ joined next last
-              → ((wider : ℕ) → limit ≤ wider → (other : Tokens) → SameHead middle other → one.read wider (joined front other) ≡ Found first other)
-              → ((wider : ℕ) → limit ≤ wider → (most : ℕ) → length others ≤ most → (other : Tokens) → SameHead last other
+              → ((wider : ℕ) → limit ≤ wider → (other : Tokens) → AlikeHeads middle other → one.read wider (joined front other) ≡ Found first other)
+              → ((wider : ℕ) → limit ≤ wider → (most : ℕ) → length others ≤ most → (other : Tokens) → AlikeHeads last other
               → read_rest most wider (joined next other) ≡ Found others other)
               → last ≡ left
-              → (wider : ℕ) → limit ≤ wider → (most : ℕ) → length (first ∷ others) ≤ most → (other : Tokens) → SameHead left other
+              → (wider : ℕ) → limit ≤ wider → (most : ℕ) → length (first ∷ others) ≤ most → (other : Tokens) → AlikeHeads left other
               → read_most most wider (joined (front ++ next) other) ≡ Found (first ∷ others) other
           repeated first others front next middle last is again again' same wider h zero enough other heads = absurd (omega arith)
           repeated first others front next middle last is again again' same wider h (suc most) enough other heads =
-              let heads' : SameHead last other = subst (λ (m : Tokens). SameHead m other) (sym same) heads in
+              let heads' : AlikeHeads last other = subst (λ (m : Tokens). AlikeHeads m other) (sym same) heads in
               ap (read_most (suc most) wider) (joined-append front next other)
               ∙ (ap (λ reading. then_read reading (λ first tokens. then_read (read_rest most wider tokens) (λ others tokens. Found (first ∷ others) tokens)))
               (again wider h (joined next other) (front_heads next last other middle is heads'))
@@ -197,7 +197,7 @@ module _ (limit : ℕ) (one : Reader limit) (between closing : Written) (all : L
   taken_some : (front : List Placed) (first : one.A) → AreFirst front (one.written first) [] → 0 < length front
   taken_some front first are = omega (arith, first_length front (one.written first) are, (listed limit).some first)
 
-  some_head : (middle other : Tokens) → SameHead middle other → 0 < count other
+  some_head : (middle other : Tokens) → AlikeHeads middle other → 0 < count other
   some_head middle other h = subst (λ (ts : Tokens). 0 < count ts) (sym h.other_is) (omega arith)
 
   pub list_stuck : (most : ℕ) (before : Tokens) → count before ≤ most → (kind : SyntaxKind) (at : Place) → read_most most limit before ≡ FaultAt kind at
@@ -246,15 +246,15 @@ module _ (limit : ℕ) (one : Reader limit) (between closing : Written) (all : L
               | inr g' ↦ absurd (let e' = g'.others in cc)
             ]
       ] where
-        first_fails : (wider : ℕ) (kind : SyntaxKind) (at : Place) (other : Tokens) → limit ≤ wider → SameHead before other → one.read wider other ≡ FaultAt kind at
+        first_fails : (wider : ℕ) (kind : SyntaxKind) (at : Place) (other : Tokens) → limit ≤ wider → AlikeHeads before other → one.read wider other ≡ FaultAt kind at
             → ListFails wider other kind at
         first_fails wider kind at other h heads x zero enough = absurd (omega (arith, some_head before other heads, enough))
         first_fails wider kind at other h heads x (suc most) enough =
             ap (λ reading. then_read reading (λ first tokens. then_read (read_rest most wider tokens) (λ others tokens. Found (first ∷ others) tokens))) x
 
         rest_fails : (first : one.A) (middle : Tokens) (front : List Placed) → 0 < length front
-            → ((wider : ℕ) → limit ≤ wider → (other : Tokens) → SameHead middle other → one.read wider (joined front other) ≡ Found first other)
-            → (wider : ℕ) (kind : SyntaxKind) (at : Place) (other : Tokens) → limit ≤ wider → SameHead middle other → RestFails wider other kind at
+            → ((wider : ℕ) → limit ≤ wider → (other : Tokens) → AlikeHeads middle other → one.read wider (joined front other) ≡ Found first other)
+            → (wider : ℕ) (kind : SyntaxKind) (at : Place) (other : Tokens) → limit ≤ wider → AlikeHeads middle other → RestFails wider other kind at
             → ListFails wider (joined front other) kind at
         rest_fails first middle front some again wider kind at other h heads x zero enough = absurd (omega (arith, joined_count front other, enough, some))
         rest_fails first middle front some again wider kind at other h heads x (suc most) enough =

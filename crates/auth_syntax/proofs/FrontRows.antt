@@ -13,10 +13,10 @@ use Rattle.auth_syntax.specs.Parsing.{read_lower, read_upper}
 use Rattle.auth_syntax.specs.FirstFaults.{Placed, placed, joined, AreFirst}
 use Rattle.auth_syntax.proofs.Beginnings.{Begin, begin-first}
 use Rattle.auth_syntax.proofs.Readers.{Row, Done, ThenMark, ThenWord, ThenLower, ThenUpper, Then, Last, Things, made, row_written, row_within, read_row, gone_on, found_thing, found_left, mark_found, word_found, lower_found, upper_found}
-use Rattle.auth_syntax.proofs.Fronts.{joined-append, first-append, first-longer, SameHead, CanBegin, Taken, Stuck, IsLocal, stuck_behind, IsOneToken, OneTaken, one_taken, one_stuck, front_heads, stuck_on}
+use Rattle.auth_syntax.proofs.Fronts.{joined-append, first-append, first-longer, AlikeHeads, CanBegin, Taken, Stuck, IsLocal, stuck_behind, IsOneToken, OneTaken, one_taken, one_stuck, front_heads, stuck_on}
 
 pub mark_one : (wanted : Mark) → IsOneToken (read_mark wanted)
-mark_one wanted = record { decided = decided; at_end = λ at. refl; at_fault = λ at fault. refl } where
+mark_one wanted = record { decided = decided; at_end = λ at. refl; at_fault = λ at fault. refl; no_length = λ at rest. refl } where
   by_test : (at : Place) (same : Bool)
       → ((u : Unit {0}) × ((rest : Tokens) → cond same (Found tt rest) (FaultAt Expected at) ≡ Found u rest))
       ⊎ ((rest : Tokens) → ◌≡◌ {A = Reading (Unit {0})} (cond same (Found tt rest) (FaultAt Expected at)) (FaultAt Expected at))
@@ -30,7 +30,7 @@ mark_one wanted = record { decided = decided; at_end = λ at. refl; at_fault = �
   decided at token = inr (λ rest. refl)
 
 pub word_one : (wanted : Keyword) → IsOneToken (read_keyword wanted)
-word_one wanted = record { decided = decided; at_end = λ at. refl; at_fault = λ at fault. refl } where
+word_one wanted = record { decided = decided; at_end = λ at. refl; at_fault = λ at fault. refl; no_length = λ at rest. refl } where
   by_test : (at : Place) (same : Bool)
       → ((u : Unit {0}) × ((rest : Tokens) → cond same (Found tt rest) (FaultAt Expected at) ≡ Found u rest))
       ⊎ ((rest : Tokens) → ◌≡◌ {A = Reading (Unit {0})} (cond same (Found tt rest) (FaultAt Expected at)) (FaultAt Expected at))
@@ -44,7 +44,7 @@ word_one wanted = record { decided = decided; at_end = λ at. refl; at_fault = �
   decided at token = inr (λ rest. refl)
 
 pub lower_one : IsOneToken read_lower
-lower_one = record { decided = decided; at_end = λ at. refl; at_fault = λ at fault. refl } where
+lower_one = record { decided = decided; at_end = λ at. refl; at_fault = λ at fault. refl; no_length = λ at rest. refl } where
   decided : (at : Place) (token : Token)
       → ((name : NameSyntax) × ((rest : Tokens) → read_lower (Next at token rest) ≡ Found name rest))
       ⊎ ((rest : Tokens) → read_lower (Next at token rest) ≡ FaultAt Expected at)
@@ -52,7 +52,7 @@ lower_one = record { decided = decided; at_end = λ at. refl; at_fault = λ at f
   decided at token = inr (λ rest. refl)
 
 pub upper_one : IsOneToken read_upper
-upper_one = record { decided = decided; at_end = λ at. refl; at_fault = λ at fault. refl } where
+upper_one = record { decided = decided; at_end = λ at. refl; at_fault = λ at fault. refl; no_length = λ at rest. refl } where
   decided : (at : Place) (token : Token)
       → ((name : NameSyntax) × ((rest : Tokens) → read_upper (Next at token rest) ≡ Found name rest))
       ⊎ ((rest : Tokens) → read_upper (Next at token rest) ≡ FaultAt Expected at)
@@ -196,7 +196,7 @@ row_taken {limit} (Last reader make) l before found left e =
       fits = subst (reader.within limit) thing t.fits;
       again = λ wider h other heads.
           ap (λ reading. then_read reading (λ thing tokens. Found (make thing) tokens))
-          (t.again wider h other (subst (λ (m : Tokens). SameHead m other) (sym same) heads))
+          (t.again wider h other (subst (λ (m : Tokens). AlikeHeads m other) (sym same) heads))
           ∙ ap (λ thing. Found thing other) (found_thing g.others);
     }
 

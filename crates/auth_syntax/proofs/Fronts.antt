@@ -1,14 +1,16 @@
 -- What a reader says of tokens that only begin alike: what it finds, and where it fails, hangs on the tokens up to the one behind, and
 -- where it fails what it has taken can be gone on with.
 use Rattle.std.proofs.Common.{◌≡◌, ℕ, suc, ◌≤◌, ◌⊎◌, inl, inr, List, [], ◌∷◌, ◌++◌, refl, sym, ap, subst, ◌∙◌, arith, append_assoc}
+use Rattle.std.specs.Prelude.{ℤ, pos}
 use Rattle.lexemes.specs.declared.place.Place.{Place}
 use Rattle.lexemes.specs.declared.fault.LexicalFault.{LexicalFault}
+use Rattle.lexemes.specs.declared.fault.LexicalFault.TheVariants.{NumberRange}
 use Rattle.lexemes.specs.declared.fault.SyntaxKind.{SyntaxKind}
 use Rattle.lexemes.specs.declared.fault.SyntaxKind.TheVariants.{Lexical, Expected, TooNested}
-use Rattle.lexemes.specs.Tokens.{Token, Tokens, Next, End, Faulty}
+use Rattle.lexemes.specs.Tokens.{Token, IntToken, Tokens, Next, End, Faulty}
 use Rattle.auth_syntax.specs.Grammar.{Written}
 use Rattle.lexemes.specs.Readings.{Reading, Found, FaultAt, then_read}
-use Rattle.auth_syntax.specs.FirstFaults.{Placed, placed, joined, AreFirst}
+use Rattle.auth_syntax.specs.FirstFaults.{Placed, placed, joined, AreFirst, IsInt}
 
 -- fronts that are put together
 pub joined-append : (front next : List Placed) (rest : Tokens) → joined (front ++ next) rest ≡ joined front (joined next rest)
@@ -26,20 +28,48 @@ first-longer [] ws others vs h = ap (λ (ws : List Written). ws ++ vs) h
 first-longer (p ∷ front) [] others vs h = absurd h
 first-longer (p ∷ front) (w ∷ ws) others vs h = (h.0, h.1, first-longer front ws others vs h.2)
 
--- tokens whose heads are the same
-pub record SameHead (left other : Tokens) : Type 0 where
+-- The same token, or an int in its place. An int goes on with nothing that is whole, so what is taken before a token would be before an int.
+abbrev pub AreAlike : Token → Token → Type 0
+AreAlike token token' = (token ≡ token') ⊎ IsInt token'
+
+alike_holds : (P : Token → Type 0) (token token' : Token) → AreAlike token token' → ((z : ℤ) → P (IntToken z)) → P token → P token'
+alike_holds P token token' (inl same) ints h = subst P same h
+alike_holds P token (IntToken z) (inr int) ints h = ints z
+alike_holds P token token' (inr int) ints h = absurd int
+
+-- tokens whose heads are alike
+pub record AlikeHeads (left other : Tokens) : Type 0 where
   pub at : Place
   pub token : Token
+  pub token' : Token
   pub rest : Tokens
   pub rest' : Tokens
   pub is : left ≡ Next at token rest
-  pub other_is : other ≡ Next at token rest'
+  pub other_is : other ≡ Next at token' rest'
+  pub alike : AreAlike token token'
 
-pub same_head : (front : List Placed) (at : Place) (token : Token) (rest rest' : Tokens)
-    → SameHead (joined front (Next at token rest)) (joined front (Next at token rest'))
-same_head [] at token rest rest' = record { at = at; token = token; rest = rest; rest' = rest'; is = refl; other_is = refl }
-same_head (p ∷ front) at token rest rest' =
-    record { at = p.at; token = p.token; rest = joined front (Next at token rest); rest' = joined front (Next at token rest'); is = refl; other_is = refl }
+pub alike_heads : (front : List Placed) (at : Place) (token token' : Token) (rest rest' : Tokens) → AreAlike token token'
+    → AlikeHeads (joined front (Next at token rest)) (joined front (Next at token' rest'))
+alike_heads [] at token token' rest rest' h =
+    record { at = at; token = token; token' = token'; rest = rest; rest' = rest'; is = refl; other_is = refl; alike = h }
+alike_heads (p ∷ front) at token token' rest rest' h = record {
+  at = p.at;
+  token = p.token;
+  token' = p.token;
+  rest = joined front (Next at token rest);
+  rest' = joined front (Next at token' rest');
+  is = refl;
+  other_is = refl;
+  alike = inl refl;
+}
+
+-- what the token at the head decides, and holds of each int, holds of tokens with an alike head
+pub heads_hold : (P : Tokens → Type 0) (left other : Tokens) → AlikeHeads left other → ((at : Place) (z : ℤ) (rest : Tokens) → P (Next at (IntToken z) rest))
+    → ((at : Place) (token : Token) (rest rest' : Tokens) → P (Next at token rest) → P (Next at token rest')) → P left → P other
+heads_hold P left other h ints decides p =
+    subst P (sym h.other_is)
+    (alike_holds (λ (token : Token). P (Next h.at token h.rest')) h.token h.token' h.alike (λ z. ints h.at z h.rest')
+    (decides h.at h.token h.rest h.rest' (subst P h.is p)))
 
 -- a thing whose tokens begin with these
 pub record CanBegin {A : Type 0} (written : A → List Written) (within : ℕ → A → Type 0) (limit : ℕ) (front : List Placed) : Type 0 where
@@ -57,15 +87,27 @@ pub record Taken {A B : Type 0} (limit : ℕ) (read : ℕ → Tokens → Reading
   pub is : before ≡ joined front left
   pub are_all : AreFirst front (written thing) []
   pub fits : within limit thing
-  pub again : (wider : ℕ) → limit ≤ wider → (other : Tokens) → SameHead left other → read wider (joined front other) ≡ Found found other
+  pub again : (wider : ℕ) → limit ≤ wider → (other : Tokens) → AlikeHeads left other → read wider (joined front other) ≡ Found found other
+
+-- an int that can be a length
+abbrev pub a_length : Token
+a_length = IntToken (pos 64)
+
+-- with this token behind these, reading fails so within a limit and each wider one, whatever stands behind it
+abbrev pub FailsAt : ℕ → (ℕ → Tokens → SyntaxKind → Place → Type 0) → List Placed → Place → Token → SyntaxKind → Type 0
+FailsAt limit fails front place token kind =
+    (wider : ℕ) → limit ≤ wider → (other : Tokens) → fails wider (joined front (Next place token other)) kind place
 
 -- What stands behind what was taken, and is refused, where `fails` says how reading fails; a token is refused whatever stands behind it, as
--- not expected with a wider limit too.
+-- not expected or out of range with a wider limit too. An int is not expected where a length isn't.
 abbrev pub BlockedBy : ℕ → (ℕ → Tokens → SyntaxKind → Place → Type 0) → (ℕ → List Placed → Type 0) → List Placed → Tokens → SyntaxKind → Place → Type 0
 BlockedBy limit fails begins front (Faulty place fault) kind at = (kind ≡ Lexical fault) × (place ≡ at)
 BlockedBy limit fails begins front (End place) kind at = (kind ≡ Expected) × (place ≡ at)
 BlockedBy limit fails begins front (Next place token rest) Expected at =
-    (place ≡ at) × ((wider : ℕ) → limit ≤ wider → (other : Tokens) → fails wider (joined front (Next place token other)) Expected place)
+    (place ≡ at) × FailsAt limit fails front place token Expected × (IsInt token → FailsAt limit fails front place a_length Expected)
+BlockedBy limit fails begins front (Next place token rest) (Lexical NumberRange) at =
+    (place ≡ at) × IsInt token × begins (suc limit) (front ++ placed place a_length ∷ [])
+    × FailsAt limit fails front place token (Lexical NumberRange)
 BlockedBy limit fails begins front (Next place token rest) TooNested at =
     (place ≡ at) × begins (suc (suc limit)) (front ++ placed place token ∷ [])
     × ((other : Tokens) → fails limit (joined front (Next place token other)) TooNested place)
@@ -105,7 +147,7 @@ pub stuck_behind_by : (limit : ℕ) (fails : ℕ → Tokens → SyntaxKind → P
     (kind : SyntaxKind) (at : Place)
     → before ≡ joined front middle
     → ((n : ℕ) (next : List Placed) → limit ≤ n → begins (suc n) next → begins' (suc n) (front ++ next))
-    → ((wider : ℕ) (kind : SyntaxKind) (at : Place) (other : Tokens) → limit ≤ wider → SameHead middle other → fails wider other kind at
+    → ((wider : ℕ) (kind : SyntaxKind) (at : Place) (other : Tokens) → limit ≤ wider → AlikeHeads middle other → fails wider other kind at
     → fails' wider (joined front other) kind at)
     → StuckBy limit fails begins middle kind at → StuckBy limit fails' begins' before kind at
 stuck_behind_by limit fails begins fails' begins' front before middle kind at is goes lifts s = record {
@@ -115,28 +157,47 @@ stuck_behind_by limit fails begins fails' begins' front before middle kind at is
   can_go_on = goes limit s.front (omega arith) s.can_go_on;
   blocked = lifted s.rest kind at s.is s.blocked;
 } where
-  heads : (place : Place) (token : Token) (rest other : Tokens) → middle ≡ joined s.front (Next place token rest)
-      → SameHead middle (joined s.front (Next place token other))
-  heads place token rest other e =
-      subst (λ (m : Tokens). SameHead m (joined s.front (Next place token other))) (sym e) (same_head s.front place token rest other)
+  heads : (place : Place) (token token' : Token) (rest other : Tokens) → middle ≡ joined s.front (Next place token rest) → AreAlike token token'
+      → AlikeHeads middle (joined s.front (Next place token' other))
+  heads place token token' rest other e h =
+      subst (λ (m : Tokens). AlikeHeads m (joined s.front (Next place token' other))) (sym e) (alike_heads s.front place token token' rest other h)
 
-  whole : (wider : ℕ) (kind : SyntaxKind) (place : Place) (token : Token) (rest other : Tokens) → limit ≤ wider
-      → middle ≡ joined s.front (Next place token rest) → fails wider (joined s.front (Next place token other)) kind place
-      → fails' wider (joined (front ++ s.front) (Next place token other)) kind place
-  whole wider kind place token rest other h e f =
-      subst (λ (ts : Tokens). fails' wider ts kind place) (sym (joined-append front s.front (Next place token other)))
-      (lifts wider kind place (joined s.front (Next place token other)) h (heads place token rest other e) f)
+  whole : (wider : ℕ) (kind : SyntaxKind) (place : Place) (token token' : Token) (rest other : Tokens) → limit ≤ wider
+      → middle ≡ joined s.front (Next place token rest) → AreAlike token token' → fails wider (joined s.front (Next place token' other)) kind place
+      → fails' wider (joined (front ++ s.front) (Next place token' other)) kind place
+  whole wider kind place token token' rest other h e alike f =
+      subst (λ (ts : Tokens). fails' wider ts kind place) (sym (joined-append front s.front (Next place token' other)))
+      (lifts wider kind place (joined s.front (Next place token' other)) h (heads place token token' rest other e alike) f)
+
+  -- so it does with a token alike
+  fails_so : (place : Place) (token token' : Token) (rest : Tokens) (kind : SyntaxKind) → middle ≡ joined s.front (Next place token rest)
+      → AreAlike token token' → FailsAt limit fails s.front place token' kind → FailsAt limit fails' (front ++ s.front) place token' kind
+  fails_so place token token' rest kind e alike f = λ wider h other. whole wider kind place token token' rest other h e alike (f wider h other)
+
+  further : (n : ℕ) (place : Place) (token : Token) → limit ≤ n → begins (suc n) (s.front ++ placed place token ∷ [])
+      → begins' (suc n) ((front ++ s.front) ++ placed place token ∷ [])
+  further n place token h b =
+      subst (begins' (suc n)) (sym (append_assoc front s.front (placed place token ∷ []))) (goes n (s.front ++ placed place token ∷ []) h b)
 
   lifted : (rest : Tokens) (kind : SyntaxKind) (at : Place) → middle ≡ joined s.front rest → BlockedBy limit fails begins s.front rest kind at
       → BlockedBy limit fails' begins' (front ++ s.front) rest kind at
   lifted (Faulty place fault) kind at e b = b
   lifted (End place) kind at e b = b
-  lifted (Next place token rest) Expected at e b = (b.0, λ wider h other. whole wider Expected place token rest other h e (b.1 wider h other))
+  lifted (Next place token rest) Expected at e b = (
+    b.0,
+    fails_so place token token rest Expected e (inl refl) b.1,
+    λ int. fails_so place token a_length rest Expected e (inr tt) (b.2 int),
+  )
+  lifted (Next place token rest) (Lexical NumberRange) at e b = (
+    b.0,
+    b.1,
+    further limit place a_length (omega arith) b.2,
+    fails_so place token token rest (Lexical NumberRange) e (inl refl) b.3,
+  )
   lifted (Next place token rest) TooNested at e b = (
     b.0,
-    subst (begins' (suc (suc limit))) (sym (append_assoc front s.front (placed place token ∷ [])))
-        (goes (suc limit) (s.front ++ placed place token ∷ []) (omega arith) b.1),
-    λ other. whole limit TooNested place token rest other (omega arith) e (b.2 other),
+    further (suc limit) place token (omega arith) b.1,
+    λ other. whole limit TooNested place token token rest other (omega arith) e (inl refl) (b.2 other),
   )
   lifted (Next place token rest) (Lexical fault) at e b = absurd b
 
@@ -144,17 +205,18 @@ pub stuck_behind : {A B : Type 0} (limit : ℕ) (read : ℕ → Tokens → Readi
     (read' : ℕ → Tokens → Reading B) (begins' : ℕ → List Placed → Type 0) (front : List Placed) (before middle : Tokens) (kind : SyntaxKind) (at : Place)
     → before ≡ joined front middle
     → ((n : ℕ) (next : List Placed) → limit ≤ n → begins (suc n) next → begins' (suc n) (front ++ next))
-    → ((wider : ℕ) (kind : SyntaxKind) (at : Place) (other : Tokens) → limit ≤ wider → SameHead middle other → read wider other ≡ FaultAt kind at
+    → ((wider : ℕ) (kind : SyntaxKind) (at : Place) (other : Tokens) → limit ≤ wider → AlikeHeads middle other → read wider other ≡ FaultAt kind at
     → read' wider (joined front other) ≡ FaultAt kind at)
     → Stuck limit read begins middle kind at → Stuck limit read' begins' before kind at
 stuck_behind limit read begins read' begins' = stuck_behind_by limit (Fails read) begins (Fails read') begins'
 
--- readers of one token
+-- readers of one token that is no length
 pub record IsOneToken {A : Type 0} (reads : Tokens → Reading A) : Type 0 where
   pub decided : (at : Place) (token : Token)
       → ((thing : A) × ((rest : Tokens) → reads (Next at token rest) ≡ Found thing rest)) ⊎ ((rest : Tokens) → reads (Next at token rest) ≡ FaultAt Expected at)
   pub at_end : (at : Place) → reads (End at) ≡ FaultAt Expected at
   pub at_fault : (at : Place) (fault : LexicalFault) → reads (Faulty at fault) ≡ FaultAt (Lexical fault) at
+  pub no_length : (at : Place) (rest : Tokens) → reads (Next at a_length rest) ≡ FaultAt Expected at
 
 -- a token that is taken
 pub record OneTaken {A : Type 0} (reads : Tokens → Reading A) (before : Tokens) (found : A) (left : Tokens) : Type 0 where
@@ -203,16 +265,16 @@ one_stuck {A} limit reads one begins some (Next place token rest) kind at e = by
         is = refl;
         can_go_on = some;
         blocked = subst (λ (kind : SyntaxKind). Blocked limit (λ (wider : ℕ). reads) begins [] (Next place token rest) kind at) (sym (kind_is e'))
-            (sym (place_is e'), λ wider h' other. h other);
+            (sym (place_is e'), λ wider h' other. h other, λ int wider h' other. one.no_length place other);
       }
 
 -- heads behind a front
-pub front_heads : (front : List Placed) (left other middle : Tokens) → middle ≡ joined front left → SameHead left other
-    → SameHead middle (joined front other)
+pub front_heads : (front : List Placed) (left other middle : Tokens) → middle ≡ joined front left → AlikeHeads left other
+    → AlikeHeads middle (joined front other)
 front_heads front left other middle e h =
-    subst (λ (m : Tokens). SameHead m (joined front other)) (sym (e ∙ ap (joined front) h.is))
-    (subst (λ (o : Tokens). SameHead (joined front (Next h.at h.token h.rest)) (joined front o)) (sym h.other_is)
-    (same_head front h.at h.token h.rest h.rest'))
+    subst (λ (m : Tokens). AlikeHeads m (joined front other)) (sym (e ∙ ap (joined front) h.is))
+    (subst (λ (o : Tokens). AlikeHeads (joined front (Next h.at h.token h.rest)) (joined front o)) (sym h.other_is)
+    (alike_heads front h.at h.token h.token' h.rest h.rest' h.alike))
 
 -- a reading that goes on from another fails in the first or behind it
 pub record StuckOn {A B : Type 0} (reading : Reading A) (go : A → Tokens → Reading B) (kind : SyntaxKind) (at : Place) : Type 0 where

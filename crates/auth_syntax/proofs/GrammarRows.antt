@@ -228,6 +228,76 @@ a_function_has_a_parameter = refl
 no_grouping : fault_of (parsed (codes "query f(x: int): int = (x);")) ≡ Some (Expected, 1, 26)
 no_grouping = refl
 
+-- a format, and arrays, which the second one has
+the_first_format : is_tree (parsed (codes "format 1; state unit;")) ≡ true
+the_first_format = refl
+
+a_format_with_a_leading_zero : is_tree (parsed (codes "format 02; state unit;")) ≡ true
+a_format_with_a_leading_zero = refl
+
+there_is_no_third_format : fault_of (parsed (codes "format 3;")) ≡ Some (Expected, 1, 8)
+there_is_no_third_format = refl
+
+a_format_is_a_number : fault_of (parsed (codes "format x;")) ≡ Some (Expected, 1, 8)
+a_format_is_a_number = refl
+
+a_format_ends_with_a_semicolon : fault_of (parsed (codes "format 2")) ≡ Some (Expected, 1, 9)
+a_format_ends_with_a_semicolon = refl
+
+one_format_is_told : fault_of (parsed (codes "format 2; format 2;")) ≡ Some (Expected, 1, 11)
+one_format_is_told = refl
+
+format_is_a_name_elsewhere : is_tree (parsed (codes "state unit; fun format(x: int): int = x;")) ≡ true
+format_is_a_name_elsewhere = refl
+
+an_array_and_its_element : is_tree (parsed (codes "format 2; state vec[2] int; query at(s: vec[2] int, i: int): int = vget(s, i);")) ≡ true
+an_array_and_its_element = refl
+
+an_array_that_is_filled : is_tree (parsed (codes "format 2; query f(x: int): vec[3] int = vfill[3](x);")) ≡ true
+an_array_that_is_filled = refl
+
+an_array_with_another_element : is_tree (parsed (codes "format 2; query f(x: vec[64] (int, vec[1] text)): vec[64] (int, vec[1] text) = vput(x, 0, vget(x, 1));")) ≡ true
+an_array_with_another_element = refl
+
+an_array_has_an_element : fault_of (parsed (codes "format 2; state vec[0] int;")) ≡ Some ((Lexical lexical.NumberRange), 1, 21)
+an_array_has_an_element = refl
+
+an_array_has_at_most_64_elements : fault_of (parsed (codes "format 2; state vec[65] int;")) ≡ Some ((Lexical lexical.NumberRange), 1, 21)
+an_array_has_at_most_64_elements = refl
+
+a_length_is_not_negative : fault_of (parsed (codes "format 2; state vec[-2] int;")) ≡ Some ((Lexical lexical.NumberRange), 1, 21)
+a_length_is_not_negative = refl
+
+a_filled_array_has_at_most_64_elements : fault_of (parsed (codes "format 2; query f(x: int): int = vfill[65](x);")) ≡ Some ((Lexical lexical.NumberRange), 1, 40)
+a_filled_array_has_at_most_64_elements = refl
+
+an_array_has_a_length : fault_of (parsed (codes "format 2; state vec int;")) ≡ Some (Expected, 1, 21)
+an_array_has_a_length = refl
+
+a_length_is_an_int : fault_of (parsed (codes "format 2; state vec[n] int;")) ≡ Some (Expected, 1, 21)
+a_length_is_an_int = refl
+
+vfill_has_one_operand : fault_of (parsed (codes "format 2; query f(x: int): int = vfill[2](x, x);")) ≡ Some (Expected, 1, 44)
+vfill_has_one_operand = refl
+
+vget_has_two_operands : fault_of (parsed (codes "format 2; query f(x: int): int = vget(x);")) ≡ Some (Expected, 1, 40)
+vget_has_two_operands = refl
+
+vput_has_no_fourth_operand : fault_of (parsed (codes "format 2; query f(x: int): int = vput(x, x, x, x);")) ≡ Some (Expected, 1, 46)
+vput_has_no_fourth_operand = refl
+
+their_words_are_names_in_the_first_format : is_tree (parsed (codes "type vec = A; fun vget(vput: vec, vfill: vec): vec = vput;")) ≡ true
+their_words_are_names_in_the_first_format = refl
+
+but_not_in_the_second : fault_of (parsed (codes "format 2; fun vget(x: int): int = x;")) ≡ Some (Expected, 1, 15)
+but_not_in_the_second = refl
+
+no_brackets_where_no_format_is_told : fault_of (parsed (codes "state vec[2] int;")) ≡ Some ((Lexical lexical.Char), 1, 10)
+no_brackets_where_no_format_is_told = refl
+
+no_brackets_in_the_first_format : fault_of (parsed (codes "format 1; state vec[2] int;")) ≡ Some ((Lexical lexical.Char), 1, 20)
+no_brackets_in_the_first_format = refl
+
 -- an authenticated search tree
 abbrev search_tree : List (List ℕ)
 search_tree =

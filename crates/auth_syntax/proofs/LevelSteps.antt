@@ -4,7 +4,7 @@ use Rattle.core_terms.specs.declared.term.BinaryOperator.{BinaryOperator}
 use Rattle.lexemes.specs.declared.place.Place.{Place}
 use Rattle.lexemes.specs.declared.fault.SyntaxKind.TheVariants.{Expected, TooNested}
 use Rattle.lexemes.specs.declared.token.Keyword.{Keyword}
-use Rattle.lexemes.specs.declared.token.Keyword.TheVariants.{Let as LetWord, Match as MatchWord, If as IfWord, Auth as AuthWord, Unit as UnitWord, Bool as BoolWord, Int as IntWord, Text as TextWord, True as TrueWord, False as FalseWord}
+use Rattle.lexemes.specs.declared.token.Keyword.TheVariants.{Let as LetWord, Match as MatchWord, If as IfWord, Auth as AuthWord, Unit as UnitWord, Bool as BoolWord, Int as IntWord, Text as TextWord, True as TrueWord, False as FalseWord, Vec as VecWord, VecFill as VecFillWord, VecGet as VecGetWord, VecPut as VecPutWord}
 use Rattle.lexemes.specs.declared.token.Mark.TheVariants.{LeftParenthesis}
 use Rattle.lexemes.specs.Tokens.{Token, KeywordToken, MarkToken, LowerToken, UpperToken, IntToken, TextToken, Tokens, Next}
 use Rattle.auth_syntax.specs.Syntax.{TypeSyntax, ExpSyntax, UnaryOperation}
@@ -22,6 +22,7 @@ type_from-none part at (KeywordToken BoolWord) rest h = absurd (cc)
 type_from-none part at (KeywordToken IntWord) rest h = absurd (cc)
 type_from-none part at (KeywordToken TextWord) rest h = absurd (cc)
 type_from-none part at (KeywordToken AuthWord) rest h = absurd (cc)
+type_from-none part at (KeywordToken VecWord) rest h = absurd (cc)
 type_from-none part at (LowerToken name) rest h = absurd (cc)
 type_from-none part at (MarkToken LeftParenthesis) rest h = absurd (cc)
 type_from-none part at token rest h = refl
@@ -54,6 +55,9 @@ word_from-none part at FalseWord rest h = absurd (cc)
 word_from-none part at LetWord rest h = absurd (cc)
 word_from-none part at IfWord rest h = absurd (cc)
 word_from-none part at MatchWord rest h = absurd (cc)
+word_from-none part at VecFillWord rest h = absurd (cc)
+word_from-none part at VecGetWord rest h = absurd (cc)
+word_from-none part at VecPutWord rest h = absurd (cc)
 word_from-none part at keyword rest h = operation_from-none part at (unary_of keyword) (binary_of keyword) rest h
 
 expression_from-none : (part : Tokens → Reading ExpSyntax) (at : Place) (token : Token) (rest : Tokens) → begins_expression token ≡ false

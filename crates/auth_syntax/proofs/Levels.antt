@@ -3,12 +3,13 @@ use Rattle.std.proofs.Common.{◌≡◌, ℕ, zero, suc, ◌≤◌, Bool, true, 
 use Rattle.lexemes.specs.declared.place.Place.{Place}
 use Rattle.lexemes.specs.declared.fault.SyntaxKind.{SyntaxKind}
 use Rattle.lexemes.specs.declared.fault.SyntaxKind.TheVariants.{Lexical, Expected, TooNested}
+use Rattle.lexemes.specs.declared.fault.LexicalFault.TheVariants.{NumberRange}
 use Rattle.lexemes.specs.Tokens.{Token, Tokens, Next, End, Faulty}
 use Rattle.auth_syntax.specs.Grammar.{Written}
 use Rattle.lexemes.specs.Readings.{Reading, Found, FaultAt}
 use Rattle.auth_syntax.specs.Parsing.{too_nested}
-use Rattle.auth_syntax.specs.FirstFaults.{Placed, placed, joined}
-use Rattle.auth_syntax.proofs.Fronts.{SameHead, CanBegin, Taken, Blocked, Stuck, kind_is, place_is}
+use Rattle.auth_syntax.specs.FirstFaults.{Placed, placed, joined, IsInt}
+use Rattle.auth_syntax.proofs.Fronts.{AlikeHeads, CanBegin, Taken, a_length, FailsAt, Fails, Blocked, Stuck, kind_is, place_is}
 use Rattle.auth_syntax.proofs.Productions.{HasSome, rest_refused}
 
 module _ {B : Type 0} (read : ℕ → Tokens → Reading B) (written : B → List Written) (within : ℕ → B → Type 0) where
@@ -25,7 +26,7 @@ module _ {B : Type 0} (read : ℕ → Tokens → Reading B) (written : B → Lis
     fits = t.fits;
     again = again;
   } where
-    again : (wider : ℕ) → suc limit ≤ wider → (other : Tokens) → SameHead left other → read wider (joined t.front other) ≡ Found found other
+    again : (wider : ℕ) → suc limit ≤ wider → (other : Tokens) → AlikeHeads left other → read wider (joined t.front other) ≡ Found found other
     again zero h other heads = absurd (omega arith)
     again (suc wider) h other heads = t.again wider (omega arith) other heads
 
@@ -42,18 +43,19 @@ module _ {B : Type 0} (read : ℕ → Tokens → Reading B) (written : B → Lis
     can_go_on = deeper (suc limit) s.front s.can_go_on;
     blocked = lifted s.rest kind s.blocked;
   } where
-    still : (at : Place) (token : Token)
-        → ((wider : ℕ) → limit ≤ wider → (other : Tokens) → read (suc wider) (joined s.front (Next at token other)) ≡ FaultAt Expected at)
-        → (wider : ℕ) → suc limit ≤ wider → (other : Tokens) → read wider (joined s.front (Next at token other)) ≡ FaultAt Expected at
-    still at token b zero h other = absurd (omega arith)
-    still at token b (suc wider) h other = b wider (omega arith) other
+    still : (at : Place) (token : Token) (kind : SyntaxKind) → FailsAt limit (Fails (λ levels. read (suc levels))) s.front at token kind
+        → FailsAt (suc limit) (Fails read) s.front at token kind
+    still at token kind b zero h other = absurd (omega arith)
+    still at token kind b (suc wider) h other = b wider (omega arith) other
 
     lifted : (rest : Tokens) (kind : SyntaxKind)
         → Blocked limit (λ levels. read (suc levels)) (CanBegin written (λ levels. within (suc levels))) s.front rest kind place
         → Blocked (suc limit) read (CanBegin written within) s.front rest kind place
     lifted (Faulty at fault) kind b = b
     lifted (End at) kind b = b
-    lifted (Next at token rest) Expected b = (b.0, still at token b.1)
+    lifted (Next at token rest) Expected b = (b.0, still at token Expected b.1, λ int. still at a_length Expected (b.2 int))
+    lifted (Next at token rest) (Lexical NumberRange) b =
+        (b.0, b.1, deeper (suc limit) (s.front ++ placed at a_length ∷ []) b.2, still at token (Lexical NumberRange) b.3)
     lifted (Next at token rest) TooNested b = (b.0, deeper (suc (suc limit)) (s.front ++ placed at token ∷ []) b.1, b.2)
     lifted (Next at token rest) (Lexical fault) b = absurd b
 
@@ -63,6 +65,7 @@ module _ {B : Type 0} (read : ℕ → Tokens → Reading B) (written : B → Lis
     pub stops : (tokens : Tokens) → read zero tokens ≡ too_nested begins tokens
     pub started : (at : Place) (token : Token) → begins token ≡ true → CanBegin written within 2 (placed at token ∷ [])
     pub never : (at : Place) (token : Token) → begins token ≡ false → (wider : ℕ) (rest : Tokens) → read (suc wider) (Next at token rest) ≡ FaultAt Expected at
+    pub ints_alike : (token : Token) → IsInt token → begins a_length ≡ begins token
 
   zero_blocked : (begins : Token → Bool) → StopsAtZero begins → (at : Place) (token : Token) (rest : Tokens) (starts : Bool) → begins token ≡ starts
       → (kind : SyntaxKind) (place : Place) → ◌≡◌ {A = Reading B} (FaultAt (cond starts TooNested Expected) at) (FaultAt kind place)
@@ -75,10 +78,10 @@ module _ {B : Type 0} (read : ℕ → Tokens → Reading B) (written : B → Lis
       )
   zero_blocked begins z at token rest false h kind place e =
       subst (λ (kind : SyntaxKind). Blocked zero read (CanBegin written within) [] (Next at token rest) kind place) (kind_is e)
-      (place_is e, still) where
-        still : (wider : ℕ) → zero ≤ wider → (other : Tokens) → read wider (Next at token other) ≡ FaultAt Expected at
-        still zero h' other = z.stops (Next at token other) ∙ ap (λ starts. FaultAt (cond starts TooNested Expected) at) h
-        still (suc wider) h' other = z.never at token h wider other
+      (place_is e, still token h, λ int. still a_length (z.ints_alike token int ∙ h)) where
+        still : (token : Token) → begins token ≡ false → FailsAt zero (Fails read) [] at token Expected
+        still token h zero h' other = z.stops (Next at token other) ∙ ap (λ starts. FaultAt (cond starts TooNested Expected) at) h
+        still token h (suc wider) h' other = z.never at token h wider other
 
   pub zero_stuck : (begins : Token → Bool) → StopsAtZero begins → (before : Tokens) (kind : SyntaxKind) (place : Place) → read zero before ≡ FaultAt kind place
       → Stuck zero read (CanBegin written within) before kind place

@@ -3,9 +3,12 @@ pub mod Beginnings
 pub mod Readers
 pub mod Lists
 pub mod Heads
+pub mod Lengths
+pub mod SoMany
 pub mod Types
 pub mod Expressions
 pub mod Declarations
+pub mod ToldFormats
 pub mod Exact
 -- parser::types and parser::expressions, the cycles
 pub mod LevelSteps
@@ -16,17 +19,21 @@ pub mod MadeOfTokens
 pub mod ArmsOneByOne
 pub mod Loops
 pub mod ListTurns
+pub mod ManyTurns
 -- the law first_fault_is_first: how the tokens before a fault can be gone on with, from rows of tokens upwards
 pub mod Fronts
 pub mod FrontRows
 pub mod Productions
 pub mod Levels
+pub mod FrontLengths
 pub mod FrontTypes
 pub mod FrontLists
 pub mod FrontCommas
 pub mod FrontArms
+pub mod FrontSoMany
 pub mod FrontExpressions
 pub mod FrontDeclarations
+pub mod FrontFormats
 pub mod FrontPrograms
 -- the law first_fault_is_told
 pub mod Told

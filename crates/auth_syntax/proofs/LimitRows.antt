@@ -44,6 +44,22 @@ levels_of_types : map type_levels (types_in_program (read sample)) ≡ 1 ∷ 1 �
 unfolding is_utf8 chars encode
 levels_of_types = refl
 
+-- arrays: what is told of the format is no name of the program
+abbrev arrays : List DeclarationSyntax
+arrays = read (codes "format 2; state vec[2] t; query f(x: vec[3] u): int = vget(vfill[4](g(x)), 1);")
+
+array_names : names_in_program arrays ≡ codes "t" ∷ codes "f" ∷ codes "x" ∷ codes "u" ∷ codes "g" ∷ codes "x" ∷ []
+array_names = refl
+
+array_expressions : expressions_in_program arrays ≡ 5
+array_expressions = refl
+
+array_levels : map expression_levels (bodies_in_program arrays) ≡ 4 ∷ []
+array_levels = refl
+
+array_levels_of_types : map type_levels (types_in_program arrays) ≡ 2 ∷ 2 ∷ 1 ∷ []
+array_levels_of_types = refl
+
 -- as far nested as they may be
 deepest : List DeclarationSyntax
 deepest = read (codes "fun f(x: " ++ repeated 99 (codes "auth ") ++ codes "int): int = " ++ repeated 99 (codes "not(") ++ codes "x" ++ repeated 99 (codes ")") ++ codes ";")

@@ -6,6 +6,7 @@ use Rattle.std.specs.Prelude.{All, flat_map, nat_le, nat_lt, ◌==◌}
 use Rattle.std.specs.Char.{is_ascii_lowercase, is_ascii_uppercase, is_ascii_digit}
 use Rattle.std.specs.Str.{is_utf8}
 use Rattle.std.specs.Str.Parse.{digits_value}
+use Rattle.core_terms.specs.declared.format.Format.{Format}
 use Rattle.lexemes.specs.declared.place.Place.{Place}
 use Rattle.lexemes.specs.declared.token.Keyword.{Keyword}
 use Rattle.lexemes.specs.declared.token.Mark.{Mark}
@@ -21,12 +22,12 @@ piece_counted (PassedOver size) at bytes go n h = omega (arith, h size)
 piece_counted (Taken token size) at bytes go n h = omega (arith, h size)
 piece_counted (Wrong kind offset) at bytes go n h = omega arith
 
-tokens_counted : (n : ℕ) (at : Place) (text : List ℕ) → count (tokens_behind n at text) ≤ length text
-tokens_counted n at [] = omega arith
-tokens_counted (suc n) at (b ∷ rest) = omega (arith, tokens_counted n (behind_byte at b) rest)
-tokens_counted zero at (b ∷ rest) =
-    piece_counted (first_piece b rest) at (b ∷ rest) (λ size. tokens_behind (size - 1) (behind_byte at b) rest) (length rest)
-    (λ size. tokens_counted (size - 1) (behind_byte at b) rest)
+tokens_counted : (format : Format) (n : ℕ) (at : Place) (text : List ℕ) → count (tokens_behind format n at text) ≤ length text
+tokens_counted format n at [] = omega arith
+tokens_counted format (suc n) at (b ∷ rest) = omega (arith, tokens_counted format n (behind_byte at b) rest)
+tokens_counted format zero at (b ∷ rest) =
+    piece_counted (first_piece format b rest) at (b ∷ rest) (λ size. tokens_behind format (size - 1) (behind_byte at b) rest) (length rest)
+    (λ size. tokens_counted format (size - 1) (behind_byte at b) rest)
 
 written_counted : (before : Tokens) (ws : List Written) (end : Place) → AreWritten before ws end → length ws ≡ count before
 written_counted (End at) [] end h = refl
@@ -37,8 +38,8 @@ written_counted (End at) (w ∷ ws) end h = absurd h
 written_counted (Faulty at kind) (w ∷ ws) end h = absurd h
 
 -- a tree is written with no more tokens than its text has bytes
-pub written_short : (text : List ℕ) (ws : List Written) (end : Place) → AreWritten (tokens text) ws end → length ws ≤ length text
-written_short text ws end h = omega (arith, written_counted (tokens text) ws end h, tokens_counted 0 start text)
+pub written_short : (format : Format) (text : List ℕ) (ws : List Written) (end : Place) → AreWritten (tokens format text) ws end → length ws ≤ length text
+written_short format text ws end h = omega (arith, written_counted (tokens format text) ws end h, tokens_counted format 0 start text)
 
 -- where a piece is a name or a text, it is within the limit
 abbrev IsLimitedPiece : Piece → Type 0
@@ -78,16 +79,16 @@ mark_limited : (mark : Option Mark) → IsLimitedPiece (mark_piece mark)
 mark_limited (Some mark) = tt
 mark_limited None = tt
 
-first_limited : (b : ℕ) (rest : List ℕ) → IsLimitedPiece (first_piece b rest)
-first_limited b rest =
+first_limited : (format : Format) (b : ℕ) (rest : List ℕ) → IsLimitedPiece (first_piece format b rest)
+first_limited format b rest =
     let text = b ∷ rest in
     either_limited (is_blank b) _ _ (λ _. tt)
     (either_limited (b == 35) _ _ (λ _. tt)
-    (either_limited (is_ascii_lowercase b) _ _ (λ _. lower_limited (keyword_of (word_of text)) (word_of text))
+    (either_limited (is_ascii_lowercase b) _ _ (λ _. lower_limited (keyword_of format (word_of text)) (word_of text))
     (either_limited (is_ascii_uppercase b) _ _ (λ _. upper_limited (word_of text))
     (either_limited (is_ascii_digit b) _ _ (λ _. int_limited false (digits_of text) (length (digits_of text)))
     (either_limited (b == 45) _ _ (λ _. minus_limited rest)
-    (either_limited (b == 34) _ _ (λ _. text_limited (quoted_behind zero 1 rest)) (mark_limited (mark_of b))))))))
+    (either_limited (b == 34) _ _ (λ _. text_limited (quoted_behind zero 1 rest)) (mark_limited (mark_of format b))))))))
 
 -- how long a name may be, and a text
 abbrev pub HasNameSize : List ℕ → Type 0
@@ -120,12 +121,13 @@ piece_limited (PassedOver size) at bytes go part h others = others size
 piece_limited (Taken token size) at bytes go part h others = (token_limited token size (length bytes) part h, others size)
 piece_limited (Wrong kind offset) at bytes go part h others = tt
 
-tokens_limited : (n : ℕ) (at : Place) (text : List ℕ) → AllLimited (tokens_behind n at text)
-tokens_limited n at [] = tt
-tokens_limited (suc n) at (b ∷ rest) = tokens_limited n (behind_byte at b) rest
-tokens_limited zero at (b ∷ rest) =
-    piece_limited (first_piece b rest) at (b ∷ rest) (λ size. tokens_behind (size - 1) (behind_byte at b) rest) (piece_is_part (b ∷ rest) (first_piece b rest) refl)
-    (first_limited b rest) (λ size. tokens_limited (size - 1) (behind_byte at b) rest)
+tokens_limited : (format : Format) (n : ℕ) (at : Place) (text : List ℕ) → AllLimited (tokens_behind format n at text)
+tokens_limited format n at [] = tt
+tokens_limited format (suc n) at (b ∷ rest) = tokens_limited format n (behind_byte at b) rest
+tokens_limited format zero at (b ∷ rest) =
+    piece_limited (first_piece format b rest) at (b ∷ rest) (λ size. tokens_behind format (size - 1) (behind_byte at b) rest)
+    (piece_is_part format (b ∷ rest) (first_piece format b rest) refl) (first_limited format b rest)
+    (λ size. tokens_limited format (size - 1) (behind_byte at b) rest)
 
 -- the name that a token is, and the text
 abbrev name_of_token : Token → List (List ℕ)
@@ -174,8 +176,10 @@ texts_from (End at) (w ∷ ws) end h all = absurd h
 texts_from (Faulty at kind) (w ∷ ws) end h all = absurd h
 
 -- they are within the limits, where they are those of a text
-pub names_limited : (text : List ℕ) (ws : List Written) (end : Place) → AreWritten (tokens text) ws end → All HasNameSize (names_written ws)
-names_limited text ws end h = names_from (tokens text) ws end h (tokens_limited 0 start text)
+pub names_limited : (format : Format) (text : List ℕ) (ws : List Written) (end : Place) → AreWritten (tokens format text) ws end
+    → All HasNameSize (names_written ws)
+names_limited format text ws end h = names_from (tokens format text) ws end h (tokens_limited format 0 start text)
 
-pub texts_limited : (text : List ℕ) (ws : List Written) (end : Place) → AreWritten (tokens text) ws end → All HasTextSize (texts_written ws)
-texts_limited text ws end h = texts_from (tokens text) ws end h (tokens_limited 0 start text)
+pub texts_limited : (format : Format) (text : List ℕ) (ws : List Written) (end : Place) → AreWritten (tokens format text) ws end
+    → All HasTextSize (texts_written ws)
+texts_limited format text ws end h = texts_from (tokens format text) ws end h (tokens_limited format 0 start text)

@@ -4,9 +4,9 @@ use Rattle.std.proofs.lemmas.List.{append-nil, length-append}
 use Rattle.std.proofs.lemmas.Grind.{flat_map-append}
 use Rattle.std.specs.Prelude.{flat_map}
 use Rattle.lexemes.specs.declared.token.Keyword.TheVariants.{In as InWord, Then as ThenWord, Else as ElseWord, With as WithWord, End as EndWord}
-use Rattle.lexemes.specs.declared.token.Mark.TheVariants.{RightParenthesis, Comma, Semicolon, Colon, EqualsSign, Bar, Arrow}
-use Rattle.auth_syntax.specs.Syntax.{NameSyntax, TypeSyntax, UnitTypeSyntax, BoolTypeSyntax, IntTypeSyntax, TextTypeSyntax, NamedTypeSyntax, AuthTypeSyntax, PairTypeSyntax, ExpSyntax, UnitSyntax, BoolSyntax, IntSyntax, TextSyntax, LocalSyntax, PairSyntax, UnarySyntax, BinarySyntax, CallSyntax, ConstructorSyntax, LetSyntax, IfSyntax, MatchSyntax, ExpsSyntax, NoExp, AndExp, ArmsSyntax, NoArmSyntax, AndArmSyntax, ParameterSyntax, FunctionSyntax, ConstructorDeclaration, DeclarationSyntax, TypeDeclaration, StateDeclaration, FunctionDeclaration}
-use Rattle.auth_syntax.specs.Grammar.{Written, mark, word, type_tokens, types_tokens, names_tokens, in_parentheses, expression_tokens, expressions_tokens, arms_tokens, parameters_tokens, constructor_tokens, constructors_tokens, declaration_tokens, declarations_tokens}
+use Rattle.lexemes.specs.declared.token.Mark.TheVariants.{LeftParenthesis, RightParenthesis, Comma, Semicolon, Colon, EqualsSign, Bar, Arrow}
+use Rattle.auth_syntax.specs.Syntax.{NameSyntax, TypeSyntax, UnitTypeSyntax, BoolTypeSyntax, IntTypeSyntax, TextTypeSyntax, NamedTypeSyntax, AuthTypeSyntax, PairTypeSyntax, VecTypeSyntax, ArrayOperation, FillOperation, GetOperation, PutOperation, ExpSyntax, UnitSyntax, BoolSyntax, IntSyntax, TextSyntax, LocalSyntax, PairSyntax, UnarySyntax, BinarySyntax, CallSyntax, ConstructorSyntax, OperateSyntax, LetSyntax, IfSyntax, MatchSyntax, ExpsSyntax, NoExp, AndExp, ArmsSyntax, NoArmSyntax, AndArmSyntax, ParameterSyntax, FunctionSyntax, ConstructorDeclaration, DeclarationSyntax, TypeDeclaration, StateDeclaration, FunctionDeclaration}
+use Rattle.auth_syntax.specs.Grammar.{Written, mark, word, type_tokens, types_tokens, names_tokens, in_parentheses, brackets, expression_tokens, expressions_tokens, arms_tokens, parameters_tokens, constructor_tokens, constructors_tokens, declaration_tokens, declarations_tokens}
 use Rattle.auth_syntax.specs.TreeLimits.{expressions_in, expressions_in_row, expressions_in_arms, expressions_in_declaration, names_in_type, names_among, names_in, names_in_row, names_in_arms, names_in_declaration, texts_in, texts_in_row, texts_in_arms, bodies_in_declaration, bodies_in_program, names_in_program, texts_in_program, expressions_in_program}
 use Rattle.auth_syntax.proofs.LimitsOfTokens.{name_in, text_in, names_written, texts_written}
 
@@ -39,6 +39,7 @@ type_names (AuthTypeSyntax at inner) = type_names inner
 type_names (PairTypeSyntax at first second) =
     last (type_tokens first ++ mark Comma ∷ type_tokens second) (mark RightParenthesis ∷ []) _
     (on (type_tokens first) (mark Comma ∷ type_tokens second) _ _ (type_names first) (type_names second)) refl
+type_names (VecTypeSyntax at n item) = type_names item
 
 types_names : (ts : List TypeSyntax) → names_written (types_tokens ts) ≡ flat_map names_in_type ts
 types_names [] = refl
@@ -49,6 +50,11 @@ names_names : (names : List NameSyntax) → names_written (names_tokens names) �
 names_names [] = refl
 names_names (name ∷ []) = refl
 names_names (name ∷ next ∷ rest) = ap (λ (xs : List (List ℕ)). name.name ∷ xs) (names_names (next ∷ rest))
+
+bracket_names : (operation : ArrayOperation) → names_written (brackets operation) ≡ []
+bracket_names (FillOperation n) = refl
+bracket_names GetOperation = refl
+bracket_names PutOperation = refl
 
 mutual
   expression_names : (e : ExpSyntax) → names_written (expression_tokens e) ≡ names_in e
@@ -69,6 +75,9 @@ mutual
       ap (λ (xs : List (List ℕ)). name ∷ xs) (last (expressions_tokens operands) (mark RightParenthesis ∷ []) _ (row_names operands) refl)
   expression_names (ConstructorSyntax at name operands) =
       ap (λ (xs : List (List ℕ)). name ∷ xs) (in_parentheses-names (expressions_tokens operands) ∙ row_names operands)
+  expression_names (OperateSyntax at operation operands) =
+      last (brackets operation ++ mark LeftParenthesis ∷ expressions_tokens operands) (mark RightParenthesis ∷ []) _
+      (on (brackets operation) (mark LeftParenthesis ∷ expressions_tokens operands) [] _ (bracket_names operation) (row_names operands)) refl
   expression_names (LetSyntax at name bound body) =
       ap (λ (xs : List (List ℕ)). name.name ∷ xs)
       (on (expression_tokens bound) (word InWord ∷ expression_tokens body) _ _ (expression_names bound) (expression_names body))
@@ -160,6 +169,7 @@ type_textless (AuthTypeSyntax at inner) = type_textless inner
 type_textless (PairTypeSyntax at first second) =
     last_texts (type_tokens first ++ mark Comma ∷ type_tokens second) (mark RightParenthesis ∷ []) _
     (last_texts (type_tokens first) (mark Comma ∷ type_tokens second) _ (type_textless first) (type_textless second)) refl
+type_textless (VecTypeSyntax at n item) = type_textless item
 
 types_textless : (ts : List TypeSyntax) → texts_written (types_tokens ts) ≡ []
 types_textless [] = refl
@@ -188,6 +198,11 @@ constructors_textless (constructor ∷ next ∷ rest) =
     last_texts (constructor_tokens constructor) (mark Bar ∷ constructors_tokens (next ∷ rest)) _ (constructor_textless constructor)
     (constructors_textless (next ∷ rest))
 
+bracket_texts : (operation : ArrayOperation) → texts_written (brackets operation) ≡ []
+bracket_texts (FillOperation n) = refl
+bracket_texts GetOperation = refl
+bracket_texts PutOperation = refl
+
 mutual
   expression_texts : (e : ExpSyntax) → texts_written (expression_tokens e) ≡ texts_in e
   expression_texts (UnitSyntax at) = refl
@@ -205,6 +220,9 @@ mutual
       (on_texts (expression_tokens first) (mark Comma ∷ expression_tokens second) _ _ (expression_texts first) (expression_texts second)) refl
   expression_texts (CallSyntax at name operands) = last_texts (expressions_tokens operands) (mark RightParenthesis ∷ []) _ (row_texts operands) refl
   expression_texts (ConstructorSyntax at name operands) = in_parentheses-texts (expressions_tokens operands) ∙ row_texts operands
+  expression_texts (OperateSyntax at operation operands) =
+      last_texts (brackets operation ++ mark LeftParenthesis ∷ expressions_tokens operands) (mark RightParenthesis ∷ []) _
+      (on_texts (brackets operation) (mark LeftParenthesis ∷ expressions_tokens operands) [] _ (bracket_texts operation) (row_texts operands)) refl
   expression_texts (LetSyntax at name bound body) =
       on_texts (expression_tokens bound) (word InWord ∷ expression_tokens body) _ _ (expression_texts bound) (expression_texts body)
   expression_texts (IfSyntax at test first other) =
@@ -280,6 +298,13 @@ mutual
       omega (arith, row_counted operands, length-append (expressions_tokens operands) (mark RightParenthesis ∷ []))
   expression_counted (ConstructorSyntax at name operands) =
       omega (arith, row_counted operands, in_parentheses-counted (expressions_tokens operands))
+  expression_counted (OperateSyntax at operation operands) =
+      omega (
+        arith,
+        row_counted operands,
+        length-append (brackets operation ++ mark LeftParenthesis ∷ expressions_tokens operands) (mark RightParenthesis ∷ []),
+        length-append (brackets operation) (mark LeftParenthesis ∷ expressions_tokens operands),
+      )
   expression_counted (LetSyntax at name bound body) =
       omega (
         arith,

@@ -25,10 +25,10 @@ followed-nil : {A : Type 0} (reading : Reading (List A)) → reading ≡ followe
 followed-nil (Found others rest) = refl
 followed-nil (FaultAt kind at) = refl
 
-joined : {A : Type 0} (before : List A) (one : A) (reading : Reading (List A))
+pub followed-joined : {A : Type 0} (before : List A) (one : A) (reading : Reading (List A))
     → followed before (then_read reading (λ others ts. Found (one ∷ others) ts)) ≡ followed (before ++ one ∷ []) reading
-joined before one (Found others rest) = rw append_assoc
-joined before one (FaultAt kind at) = refl
+followed-joined before one (Found others rest) = rw append_assoc
+followed-joined before one (FaultAt kind at) = refl
 
 -- How a list is read one by one: the things that begin these tokens are those read so far, and the things of what is left.
 pub record IsReadSoFar {A : Type 0} (reads : Tokens → Reading Bool) (one : Tokens → Reading A) (whole : Tokens) (so_far : List A) (rest : Tokens) : Type 0 where
@@ -85,7 +85,7 @@ module _ {A B : Type 0} (reads : Tokens → Reading Bool) (one : Tokens → Read
       record {
         most = more.0;
         reading = h.reading ∙ (ap (followed so_far) (more.2 ∙ ap (behind more.0 thing) sign)
-            ∙ joined so_far thing (read_separated reads one more.0 behind_sign));
+            ∙ followed-joined so_far thing (read_separated reads one more.0 behind_sign));
         enough = omega (arith, more.1, by_one.sign_is_token.fewer after behind_sign true sign);
       }
 
@@ -187,6 +187,6 @@ module _ (whole : Tokens) where
         let fewer = declaration_is_tokens (Next at token rest) after declaration found in
         record {
           most = most;
-          reading = reading ∙ (ap (followed so_far) (ap (from_declaration most) found) ∙ joined so_far declaration (read_declarations most after));
+          reading = reading ∙ (ap (followed so_far) (ap (from_declaration most) found) ∙ followed-joined so_far declaration (read_declarations most after));
           enough = omega arith;
         }

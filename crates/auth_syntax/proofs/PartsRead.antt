@@ -3,41 +3,34 @@ use Rattle.std.proofs.Common.{◌≡◌, ◌∙◌, ℕ, ap, Bool, true, false, 
 use Rattle.core_terms.specs.declared.term.BinaryOperator.{BinaryOperator}
 use Rattle.lexemes.specs.declared.place.Place.{Place}
 use Rattle.lexemes.specs.declared.token.Mark.TheVariants.{LeftParenthesis, RightParenthesis, Comma, EqualsSign, Bar, Arrow}
+use Rattle.lexemes.specs.declared.token.Keyword.{Keyword}
 use Rattle.lexemes.specs.declared.token.Keyword.TheVariants.{In as InWord, With as WithWord, Then as ThenWord, Else as ElseWord}
 use Rattle.core_terms.specs.declared.fault.Fault.TheVariants.{At, NoMemory}
 use Rattle.lexemes.specs.declared.fault.SyntaxKind.TheVariants.{Expected, Lexical, TooNested}
 use Rattle.lexemes.specs.Tokens.{MarkToken, Tokens, Next, count}
-use Rattle.lexemes.specs.Readings.{SyntaxFault, Reading, Found, FaultAt, then_read, read_mark, read_keyword}
+use Rattle.lexemes.specs.Readings.{SyntaxFault, Reading, Found, then_read, read_mark, read_keyword}
 use Rattle.lexemes.specs.Remaining.{Reads, Takes, read_if_mark}
-use Rattle.auth_syntax.specs.Syntax.{NameSyntax, UnaryOperation, ExpSyntax, UnitSyntax, PairSyntax, UnarySyntax, BinarySyntax, LetSyntax, IfSyntax, MatchSyntax}
-use Rattle.auth_syntax.specs.Parsing.{read_lower, read_upper, read_list, read_optional_list, read_call, read_constructor, read_expression, operation_from, read_unit_or_pair, read_let, read_if, read_match, read_arms}
+use Rattle.auth_syntax.specs.Syntax.{NameSyntax, UnaryOperation, ArrayOperation, ExpSyntax, UnitSyntax, PairSyntax, UnarySyntax, BinarySyntax, OperateSyntax, LetSyntax, IfSyntax, MatchSyntax}
+use Rattle.auth_syntax.specs.Grammar.{others_of}
+use Rattle.auth_syntax.specs.Parsing.{in_a_row, read_brackets, read_operate, read_so_many, read_lower, read_upper, read_list, read_optional_list, read_call, read_constructor, read_expression, operation_from, read_unit_or_pair, read_let, read_if, read_match, read_arms}
 use Rattle.auth_syntax.specs.Arms.{read_arm}
-use Rattle.auth_syntax.specs.Trees.{ArmSyntax, arms_of, boxed_of, expression_of, name_of, unary_of}
+use Rattle.auth_syntax.specs.Trees.{ArmSyntax, arms_of, array_of, boxed_of, expression_of, expressions_of, name_of, unary_of}
 use Rattle.std.specs.declared.alloc.Global.{Global}
 use Rattle.std.specs.declared.boxed.Box.{Box}
 use Rattle.auth_syntax.specs.declared.tree.Arm.{Arm}
 use Rattle.auth_syntax.specs.declared.tree.ExpTree.{ExpTree}
 use Rattle.auth_syntax.specs.declared.tree.PlacedName.{PlacedName}
 use Rattle.auth_syntax.specs.declared.tree.UnaryOperator.{UnaryOperator}
+use Rattle.auth_syntax.specs.declared.tree.ArrayOperator.{ArrayOperator}
 use Rattle.auth_syntax.specs.declared.tree.ExpTree as tree
-use Rattle.auth_syntax.specs.declared.tree.ExpTree.TheVariants.{rolls-Pair, rolls-Unary, rolls-Binary, rolls-Let, rolls-If, rolls-Match}
+use Rattle.auth_syntax.specs.declared.tree.ExpTree.TheVariants.{rolls-Pair, rolls-Unary, rolls-Binary, rolls-Operate, rolls-Let, rolls-If, rolls-Match}
 use Rattle.auth_syntax.specs.declared.tree.ExpTree.TheFolds.{fold-roll-ExpTree}
 use Rattle.auth_syntax.specs.Parts.{Begins, BothSyntax, OperationSyntax, OnOne, OnTwo, PatternSyntax, as_call, as_constructor, then_closed}
-use Rattle.auth_syntax.specs.Parts.{read_before, read_behind, read_binding, read_both, read_operands, read_operation, read_pattern}
+use Rattle.auth_syntax.specs.Parts.{read_before, read_behind, read_binding, read_both, read_opened, read_operands, read_operation, read_pattern}
 use Rattle.auth_syntax.specs.declared.parser.expressions.Behind.{Behind}
 use Rattle.auth_syntax.specs.declared.parser.expressions.Behind.TheVariants as behind
+use Rattle.auth_syntax.proofs.Readers.{in_turn, alike}
 use Rattle.auth_syntax.proofs.MadeOfTokens.{expression_is_tokens}
-
--- one reading behind another, and what is read behind both
-in_turn : {A B C : Type 0} (first : Reading A) (next : A → Tokens → Reading B) (last : B → Tokens → Reading C)
-    → then_read (then_read first next) last ≡ then_read first (λ value rest. then_read (next value rest) last)
-in_turn (Found value rest) next last = refl
-in_turn (FaultAt kind at) next last = refl
-
-alike : {A B : Type 0} (first : Reading A) (next next' : A → Tokens → Reading B) → ((value : A) (rest : Tokens) → next value rest ≡ next' value rest)
-    → then_read first next ≡ then_read first next'
-alike (Found value rest) next next' h = h value rest
-alike (FaultAt kind at) next next' h = refl
 
 -- what is read, where it is read as this
 pub seen_as : {A B : Type 0} (view : A → B) (result : Result A SyntaxFault) (left : Tokens) {reading reading' : Reading B}
@@ -56,6 +49,10 @@ unary_tree at operation operand = ap expression_of (sym (rolls-Unary at operatio
 pub binary_tree : (at : Place) (operation : BinaryOperator) (first second : Box ExpTree Global)
     → expression_of (tree.Binary at operation first second) ≡ BinarySyntax at operation (boxed_of first) (boxed_of second)
 binary_tree at operation first second = ap expression_of (sym (rolls-Binary at operation first second)) ∙ fold-roll-ExpTree _ _ _ _ _
+
+pub operate_tree : (at : Place) (operation : ArrayOperator) (operands : Vec ExpTree Global)
+    → expression_of (tree.Operate at operation operands) ≡ OperateSyntax at (array_of operation) (in_a_row (expressions_of operands))
+operate_tree at operation operands = ap expression_of (sym (rolls-Operate at operation operands)) ∙ fold-roll-ExpTree _ _ _ _ _
 
 pub let_tree : (at : Place) (name : PlacedName) (bound body : Box ExpTree Global)
     → expression_of (tree.Let at name bound body) ≡ LetSyntax at (name_of name) (boxed_of bound) (boxed_of body)
@@ -148,6 +145,18 @@ module _ (part : Tokens → Reading ExpSyntax) where
       ∙ alike (read_mark LeftParenthesis tokens) _ _
       (λ _ rest. both_is rest (λ both rest. Found (BinarySyntax at operation both.first both.second) rest)))
   operation_is at None None tokens = refl
+
+  -- operations on arrays
+  abbrev pub operated_many : Place → ArrayOperation → Tokens → Reading ExpSyntax
+  operated_many at operation tokens =
+      then_read (read_so_many part (others_of operation) tokens) (λ operands rest. Found (OperateSyntax at operation (in_a_row operands)) rest)
+
+  pub operate_is : (at : Place) (keyword : Keyword) (tokens : Tokens)
+      → read_operate part at keyword tokens ≡ then_read (read_opened keyword at tokens) (operated_many at)
+  operate_is at keyword tokens =
+      sym (in_turn (read_brackets keyword at tokens) _ (operated_many at)
+      ∙ alike (read_brackets keyword at tokens) _ _ (λ operation rest.
+      in_turn (read_mark LeftParenthesis rest) (λ _ rest. Found operation rest) (operated_many at)))
 
   -- `let`
   abbrev pub let_body : Place → NameSyntax → ExpSyntax → Tokens → Reading ExpSyntax

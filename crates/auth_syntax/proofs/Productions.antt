@@ -8,9 +8,10 @@ use Rattle.auth_syntax.specs.Syntax.{NameSyntax}
 use Rattle.auth_syntax.specs.Grammar.{Written, standing, lower}
 use Rattle.lexemes.specs.Readings.{Reading, Found, FaultAt, refused}
 use Rattle.auth_syntax.specs.Parsing.{read_lower}
-use Rattle.auth_syntax.specs.FirstFaults.{Placed, placed, joined, AreFirst}
+use Rattle.auth_syntax.specs.FirstFaults.{Placed, placed, joined, AreFirst, IsInt}
+use Rattle.auth_syntax.proofs.Beginnings.{Begin}
 use Rattle.auth_syntax.proofs.Readers.{Row, Things, made, row_written, row_within, read_row, lower_found}
-use Rattle.auth_syntax.proofs.Fronts.{joined-append, first-append, SameHead, CanBegin, Taken, Blocked, Stuck, IsLocal, stuck_behind, one_taken, one_stuck, front_heads, kind_is, place_is}
+use Rattle.auth_syntax.proofs.Fronts.{joined-append, first-append, AlikeHeads, a_length, CanBegin, Taken, Blocked, Stuck, IsLocal, stuck_behind, IsOneToken, one_taken, one_stuck, front_heads, kind_is, place_is}
 use Rattle.auth_syntax.proofs.FrontRows.{lower_one, one_before, some_name, IsLocalRow, row_taken, row_stuck}
 
 module _ {B : Type 0} (limit : ℕ) (read : ℕ → Tokens → Reading B) (written : B → List Written) (within : ℕ → B → Type 0) where
@@ -21,7 +22,7 @@ module _ {B : Type 0} (limit : ℕ) (read : ℕ → Tokens → Reading B) (writt
     pub heads : AreFirst head head_written []
     pub makes : (n : ℕ) (things : Things row) → row_within row n things
         → (head_written ++ row_written row things ≡ written (made row things)) × within n (made row things)
-    pub reads : (wider : ℕ) (other : Tokens) → SameHead behind other → read wider (joined head other) ≡ read_row row wider other
+    pub reads : (wider : ℕ) (other : Tokens) → AlikeHeads behind other → read wider (joined head other) ≡ read_row row wider other
 
   pub read_taken : (head : List Placed) (head_written : List Written) (row : Row limit B) (rest : Tokens) → IsRead head head_written row rest
       → (found : B) (left : Tokens) → read_row row limit rest ≡ Found found left
@@ -65,11 +66,12 @@ module _ {B : Type 0} (limit : ℕ) (read : ℕ → Tokens → Reading B) (writt
   begins_with_none : HasSome → CanBegin written within (suc limit) []
   begins_with_none h = record { thing = h.some; others = written h.some; are_first = refl; fits = h.some_fits limit }
 
-  -- a token that is refused, the end and a fault
+  -- a token that is refused, and a length where it is an int; the end and a fault
   pub token_refused : HasSome → (at : Place) (token : Token) (rest : Tokens) (kind : SyntaxKind) (place : Place)
       → ((wider : ℕ) (rest : Tokens) → read wider (Next at token rest) ≡ FaultAt Expected at)
+      → (IsInt token → (wider : ℕ) (rest : Tokens) → read wider (Next at a_length rest) ≡ FaultAt Expected at)
       → read limit (Next at token rest) ≡ FaultAt kind place → Stuck limit read (CanBegin written within) (Next at token rest) kind place
-  token_refused some at token rest kind place refuses e =
+  token_refused some at token rest kind place refuses no_length e =
       let e' = sym e ∙ refuses limit rest in
       record {
         front = [];
@@ -77,7 +79,7 @@ module _ {B : Type 0} (limit : ℕ) (read : ℕ → Tokens → Reading B) (writt
         is = refl;
         can_go_on = begins_with_none some;
         blocked = subst (λ (kind : SyntaxKind). Blocked limit read (CanBegin written within) [] (Next at token rest) kind place) (sym (kind_is e'))
-            (sym (place_is e'), λ wider h other. refuses wider other);
+            (sym (place_is e'), λ wider h other. refuses wider other, λ int wider h other. no_length int wider other);
       }
 
   pub rest_refused : HasSome → (before : Tokens) (kind : SyntaxKind) (place : Place) → refused {A = B} before ≡ FaultAt kind place
@@ -140,23 +142,29 @@ row_local limit row written within local makes some fits widen =
       widen = widen;
     }
 
--- names
-pub names_local : (limit : ℕ) → IsLocal limit (λ at_most. read_lower) (λ (name : NameSyntax). lower name ∷ []) (λ at_most name. Unit {0})
-names_local limit = record {
-  taken = λ before found left e.
-      let t = one_taken read_lower lower_one before found left e in record {
-        thing = found;
+-- a reader of one token
+pub one_local : {A : Type 0} (limit : ℕ) (reads : Tokens → Reading A) → IsOneToken reads → (written : A → Written)
+    → ((tokens left : Tokens) (thing : A) → reads tokens ≡ Found thing left → Begin tokens (written thing ∷ []) left) → A
+    → IsLocal limit (λ at_most. reads) (λ thing. written thing ∷ []) (λ at_most thing. Unit {0})
+one_local {A} limit reads one written found some = record {
+  taken = λ before thing left e.
+      let t = one_taken reads one before thing left e in record {
+        thing = thing;
         makes = refl;
         front = placed t.at t.token ∷ [];
         is = t.is;
-        are_all = one_before (lower_found before left found e) t;
+        are_all = one_before (found before left thing e) t;
         fits = tt;
         again = λ wider h other heads. t.again other;
       };
   stuck = λ before kind at e.
-      one_stuck limit read_lower lower_one (CanBegin (λ (name : NameSyntax). lower name ∷ []) (λ at_most name. Unit {0}))
-      (record { thing = some_name; others = lower some_name ∷ []; are_first = refl; fits = tt }) before kind at e;
-  some = some_name;
+      one_stuck limit reads one (CanBegin (λ (thing : A). written thing ∷ []) (λ at_most thing. Unit {0}))
+      (record { thing = some; others = written some ∷ []; are_first = refl; fits = tt }) before kind at e;
+  some = some;
   some_fits = λ n. tt;
-  widen = λ n wider name h fits. tt;
+  widen = λ n wider thing h fits. tt;
 }
+
+-- names
+pub names_local : (limit : ℕ) → IsLocal limit (λ at_most. read_lower) (λ (name : NameSyntax). lower name ∷ []) (λ at_most name. Unit {0})
+names_local limit = one_local limit read_lower lower_one lower lower_found some_name

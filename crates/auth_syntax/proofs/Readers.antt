@@ -133,6 +133,17 @@ pub gone_on : {A B : Type 0} (reading : Reading A) (go : A → Tokens → Readin
 gone_on (Found thing middle) go found left h = record { thing = thing; middle = middle; first = refl; others = h }
 gone_on (FaultAt kind at) go found left h = absurd (cc)
 
+-- one reading behind another, and what is read behind both
+pub in_turn : {A B C : Type 0} (first : Reading A) (next : A → Tokens → Reading B) (last : B → Tokens → Reading C)
+    → then_read (then_read first next) last ≡ then_read first (λ value rest. then_read (next value rest) last)
+in_turn (Found value rest) next last = refl
+in_turn (FaultAt kind at) next last = refl
+
+pub alike : {A B : Type 0} (first : Reading A) (next next' : A → Tokens → Reading B) → ((value : A) (rest : Tokens) → next value rest ≡ next' value rest)
+    → then_read first next ≡ then_read first next'
+alike (Found value rest) next next' h = h value rest
+alike (FaultAt kind at) next next' h = refl
+
 -- what was found, and what is left behind it
 pub found_thing : {A : Type 0} {a b : A} {left rest : Tokens} → Found a left ≡ Found b rest → a ≡ b
 found_thing h = cc

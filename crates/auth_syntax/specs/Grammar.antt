@@ -1,12 +1,16 @@
 -- The grammar: the tokens with which each syntax tree is written, an equation for each production.
-use Rattle.std.specs.Prelude.{◌≡◌, ℕ, suc, max, ◌≤◌, Bool, true, false, List, [], ◌∷◌, ◌++◌, Option, Some, None}
+use Rattle.std.specs.Prelude.{◌≡◌, ℕ, zero, suc, max, ◌≤◌, ℤ, pos, Bool, true, false, List, [], ◌∷◌, ◌++◌, Option, Some, None}
+use Rattle.core_terms.specs.Types.{is_length}
+use Rattle.core_terms.specs.declared.format.Format.{Format}
+use Rattle.core_terms.specs.declared.format.Format.TheVariants.{First, Second}
 use Rattle.lexemes.specs.declared.place.Place.{Place}
-use Rattle.lexemes.specs.Tokens.{Token, KeywordToken, MarkToken, LowerToken, UpperToken, IntToken, TextToken, Tokens, Next, End, tokens}
+use Rattle.lexemes.specs.Tokens.{Token, KeywordToken, MarkToken, LowerToken, UpperToken, IntToken, TextToken, Tokens, Next, End}
 use Rattle.lexemes.specs.declared.token.Keyword.{Keyword}
-use Rattle.lexemes.specs.declared.token.Keyword.TheVariants.{«Type» as TypeWord, State as StateWord, Fun as FunWord, Init as InitWord, Query as QueryWord, Update as UpdateWord, Let as LetWord, In as InWord, Match as MatchWord, With as WithWord, End as EndWord, If as IfWord, Then as ThenWord, Else as ElseWord, Auth as AuthWord, Unauth as UnauthWord, Fst as FstWord, Snd as SndWord, Unit as UnitWord, Bool as BoolWord, Int as IntWord, Text as TextWord, True as TrueWord, False as FalseWord, Len as LenWord, Not as NotWord, Binary as BinaryWord}
+use Rattle.lexemes.specs.declared.token.Keyword.TheVariants.{«Type» as TypeWord, State as StateWord, Fun as FunWord, Init as InitWord, Query as QueryWord, Update as UpdateWord, Let as LetWord, In as InWord, Match as MatchWord, With as WithWord, End as EndWord, If as IfWord, Then as ThenWord, Else as ElseWord, Auth as AuthWord, Unauth as UnauthWord, Fst as FstWord, Snd as SndWord, Unit as UnitWord, Bool as BoolWord, Int as IntWord, Text as TextWord, True as TrueWord, False as FalseWord, Len as LenWord, Not as NotWord, Vec as VecWord, VecFill as VecFillWord, VecGet as VecGetWord, VecPut as VecPutWord, Binary as BinaryWord}
 use Rattle.lexemes.specs.declared.token.Mark.{Mark}
-use Rattle.lexemes.specs.declared.token.Mark.TheVariants.{LeftParenthesis, RightParenthesis, Comma, Semicolon, Colon, EqualsSign, Bar, Arrow}
-use Rattle.auth_syntax.specs.Syntax.{NameSyntax, TypeSyntax, UnitTypeSyntax, BoolTypeSyntax, IntTypeSyntax, TextTypeSyntax, NamedTypeSyntax, AuthTypeSyntax, PairTypeSyntax, UnaryOperation, FstOperation, SndOperation, AuthOperation, UnauthOperation, LenOperation, NotOperation, ExpSyntax, UnitSyntax, BoolSyntax, IntSyntax, TextSyntax, LocalSyntax, PairSyntax, UnarySyntax, BinarySyntax, CallSyntax, ConstructorSyntax, LetSyntax, IfSyntax, MatchSyntax, ExpsSyntax, NoExp, AndExp, ArmsSyntax, NoArmSyntax, AndArmSyntax, ParameterSyntax, KindSyntax, InnerSyntax, InitSyntax, QuerySyntax, UpdateSyntax, FunctionSyntax, ConstructorDeclaration, DeclarationSyntax, TypeDeclaration, StateDeclaration, FunctionDeclaration, Program}
+use Rattle.lexemes.specs.declared.token.Mark.TheVariants.{LeftParenthesis, RightParenthesis, Comma, Semicolon, Colon, EqualsSign, Bar, Arrow, LeftBracket, RightBracket}
+use Rattle.auth_syntax.specs.ProgramTokens.{format_word, text_tokens}
+use Rattle.auth_syntax.specs.Syntax.{NameSyntax, TypeSyntax, UnitTypeSyntax, BoolTypeSyntax, IntTypeSyntax, TextTypeSyntax, NamedTypeSyntax, AuthTypeSyntax, PairTypeSyntax, VecTypeSyntax, UnaryOperation, FstOperation, SndOperation, AuthOperation, UnauthOperation, LenOperation, NotOperation, ArrayOperation, FillOperation, GetOperation, PutOperation, ExpSyntax, UnitSyntax, BoolSyntax, IntSyntax, TextSyntax, LocalSyntax, PairSyntax, UnarySyntax, BinarySyntax, CallSyntax, ConstructorSyntax, OperateSyntax, LetSyntax, IfSyntax, MatchSyntax, ExpsSyntax, NoExp, AndExp, ArmsSyntax, NoArmSyntax, AndArmSyntax, ParameterSyntax, KindSyntax, InnerSyntax, InitSyntax, QuerySyntax, UpdateSyntax, FunctionSyntax, ConstructorDeclaration, DeclarationSyntax, TypeDeclaration, StateDeclaration, FunctionDeclaration, Program}
 
 -- a token of a tree, with its place where the tree keeps it
 pub record Written : Type 0 where
@@ -42,7 +46,11 @@ unary_word UnauthOperation = UnauthWord
 unary_word LenOperation = LenWord
 unary_word NotOperation = NotWord
 
--- type  =  "unit" | "bool" | "int" | "text" | lower | "auth" type | "(" type "," type ")"
+-- length  =  "[" int "]"
+abbrev pub length_tokens : ℕ → List Written
+length_tokens n = mark LeftBracket ∷ anywhere (IntToken (pos n)) ∷ mark RightBracket ∷ []
+
+-- type  =  "unit" | "bool" | "int" | "text" | lower | "auth" type | "(" type "," type ")" | "vec" length type
 abbrev pub type_tokens : TypeSyntax → List Written
 type_tokens (UnitTypeSyntax at) = standing at (KeywordToken UnitWord) ∷ []
 type_tokens (BoolTypeSyntax at) = standing at (KeywordToken BoolWord) ∷ []
@@ -52,6 +60,7 @@ type_tokens (NamedTypeSyntax at name) = standing at (LowerToken name) ∷ []
 type_tokens (AuthTypeSyntax at inner) = standing at (KeywordToken AuthWord) ∷ type_tokens inner
 type_tokens (PairTypeSyntax at first second) =
     standing at (MarkToken LeftParenthesis) ∷ type_tokens first ++ mark Comma ∷ type_tokens second ++ mark RightParenthesis ∷ []
+type_tokens (VecTypeSyntax at n item) = standing at (KeywordToken VecWord) ∷ length_tokens n ++ type_tokens item
 
 -- "true"  |  "false"
 abbrev pub bool_word : Bool → Keyword
@@ -69,10 +78,26 @@ abbrev pub in_parentheses : List Written → List Written
 in_parentheses [] = []
 in_parentheses (first ∷ rest) = mark LeftParenthesis ∷ (first ∷ rest) ++ mark RightParenthesis ∷ []
 
+-- the word of an operation on arrays, what stands between it and its operands, and how many of these it has behind its first
+abbrev pub array_word : ArrayOperation → Keyword
+array_word (FillOperation n) = VecFillWord
+array_word GetOperation = VecGetWord
+array_word PutOperation = VecPutWord
+
+abbrev pub brackets : ArrayOperation → List Written
+brackets (FillOperation n) = length_tokens n
+brackets operation = []
+
+abbrev pub others_of : ArrayOperation → ℕ
+others_of (FillOperation n) = 0
+others_of GetOperation = 1
+others_of PutOperation = 2
+
 abbrev mutual
   -- expression  =  "(" ")"  |  "(" expression "," expression ")"  |  "true"  |  "false"  |  int  |  text
   --   |  lower  |  lower "(" expressions ")"  |  upper [ "(" expressions ")" ]
   --   |  unary "(" expression ")"  |  binary "(" expression "," expression ")"
+  --   |  "vfill" length "(" expressions ")"  |  ( "vget" | "vput" ) "(" expressions ")"
   --   |  "let" lower "=" expression "in" expression
   --   |  "if" expression "then" expression "else" expression
   --   |  "match" expression "with" arms "end"
@@ -92,6 +117,9 @@ abbrev mutual
   expression_tokens (CallSyntax at name operands) =
       standing at (LowerToken name) ∷ mark LeftParenthesis ∷ expressions_tokens operands ++ mark RightParenthesis ∷ []
   expression_tokens (ConstructorSyntax at name operands) = standing at (UpperToken name) ∷ in_parentheses (expressions_tokens operands)
+  expression_tokens (OperateSyntax at operation operands) =
+      standing at (KeywordToken (array_word operation)) ∷ brackets operation
+      ++ mark LeftParenthesis ∷ expressions_tokens operands ++ mark RightParenthesis ∷ []
   expression_tokens (LetSyntax at name bound body) =
       standing at (KeywordToken LetWord) ∷ lower name ∷ mark EqualsSign
       ∷ expression_tokens bound ++ word InWord ∷ expression_tokens body
@@ -160,15 +188,30 @@ declaration_tokens (FunctionDeclaration at function) =
     ++ mark EqualsSign ∷ expression_tokens function.body
     ++ mark Semicolon ∷ []
 
--- program  =  { declaration }
+-- declarations  =  { declaration }
 abbrev pub declarations_tokens : List DeclarationSyntax → List Written
 declarations_tokens [] = []
 declarations_tokens (declaration ∷ rest) = declaration_tokens declaration ++ declarations_tokens rest
+
+-- the number of a format
+abbrev pub format_number : Format → ℤ
+format_number First = pos 1
+format_number Second = pos 2
+
+-- format  =  [ "format" ( "1" | "2" ) ";" ]
+abbrev pub format_tokens : Option Format → List Written
+format_tokens None = []
+format_tokens (Some format) = anywhere (LowerToken format_word) ∷ anywhere (IntToken (format_number format)) ∷ mark Semicolon ∷ []
+
+-- program  =  format declarations
+abbrev pub program_tokens : Option Format → List DeclarationSyntax → List Written
+program_tokens format declarations = format_tokens format ++ declarations_tokens declarations
 
 -- how many types stand inside one another, the outermost among them
 abbrev pub type_levels : TypeSyntax → ℕ
 type_levels (AuthTypeSyntax at inner) = suc (type_levels inner)
 type_levels (PairTypeSyntax at first second) = suc (max (type_levels first) (type_levels second))
+type_levels (VecTypeSyntax at n item) = suc (type_levels item)
 type_levels t = 1
 
 abbrev mutual
@@ -179,6 +222,7 @@ abbrev mutual
   expression_levels (BinarySyntax at operation first second) = suc (max (expression_levels first) (expression_levels second))
   expression_levels (CallSyntax at name operands) = suc (expressions_levels operands)
   expression_levels (ConstructorSyntax at name operands) = suc (expressions_levels operands)
+  expression_levels (OperateSyntax at operation operands) = suc (expressions_levels operands)
   expression_levels (LetSyntax at name bound body) = suc (max (expression_levels bound) (expression_levels body))
   expression_levels (IfSyntax at test first other) =
       suc (max (expression_levels test) (max (expression_levels first) (expression_levels other)))
@@ -197,8 +241,25 @@ abbrev mutual
 abbrev pub nesting_limit : ℕ
 nesting_limit = 100
 
+-- each array of a type has a length from 1 to 64
+abbrev pub HasLengths : TypeSyntax → Type 0
+HasLengths (AuthTypeSyntax at inner) = HasLengths inner
+HasLengths (PairTypeSyntax at first second) = HasLengths first × HasLengths second
+HasLengths (VecTypeSyntax at n item) = (is_length n ≡ true) × HasLengths item
+HasLengths t = Unit {0}
+
+-- so has one that an operation makes
+abbrev pub has_length : ArrayOperation → Bool
+has_length (FillOperation n) = is_length n
+has_length operation = true
+
+-- how many expressions stand in a row
+abbrev pub row_length : ExpsSyntax → ℕ
+row_length NoExp = zero
+row_length (AndExp e rest) = suc (row_length rest)
+
 abbrev mutual
-  -- each call has an argument, and each match an arm
+  -- each call has an argument, each match an arm, and each operation on arrays its operands and its length
   pub HasParts : ExpSyntax → Type 0
   HasParts (UnitSyntax at) = Unit {0}
   HasParts (BoolSyntax at b) = Unit {0}
@@ -211,6 +272,7 @@ abbrev mutual
   HasParts (CallSyntax at name NoExp) = ⊥
   HasParts (CallSyntax at name (AndExp e rest)) = HaveParts (AndExp e rest)
   HasParts (ConstructorSyntax at name operands) = HaveParts operands
+  HasParts (OperateSyntax at operation operands) = (has_length operation ≡ true) × (row_length operands ≡ suc (others_of operation)) × HaveParts operands
   HasParts (LetSyntax at name bound body) = HasParts bound × HasParts body
   HasParts (IfSyntax at test first other) = HasParts test × HasParts first × HasParts other
   HasParts (MatchSyntax at subject NoArmSyntax) = ⊥
@@ -233,7 +295,7 @@ IsSome (first ∷ rest) = Unit {0}
 module _ (limit : ℕ) where
   -- a type, and an expression, within a limit of nesting
   abbrev pub IsType : TypeSyntax → Type 0
-  IsType t = type_levels t ≤ limit
+  IsType t = HasLengths t × (type_levels t ≤ limit)
 
   abbrev pub IsExpression : ExpSyntax → Type 0
   IsExpression e = HasParts e × (expression_levels e ≤ limit)
@@ -278,8 +340,8 @@ AreWritten (End at) [] end = at ≡ end
 AreWritten (Next at token rest) (written ∷ others) end = (token ≡ written.token) × IsKept written.at at × AreWritten rest others end
 AreWritten found written end = ⊥
 
--- The text is one of the program: its tokens are those with which the program is written, and the program is within the limit of nesting,
--- with a parameter, a constructor, an argument and an arm wherever there has to be one.
+-- The text is one of the program: its tokens are those with which the program is written, and the program is within the limits of nesting
+-- and of lengths, with a parameter, a constructor, an argument, an operand and an arm wherever there has to be one.
 pub record IsProgramText (text : List ℕ) (program : Program) : Type 0 where
-  pub written : AreWritten (tokens text) (declarations_tokens program.declarations) program.end
+  pub written : AreWritten (text_tokens text) (program_tokens program.format program.declarations) program.end
   pub well_formed : AreDeclarations nesting_limit program.declarations

@@ -1,7 +1,7 @@
 -- The laws of the grammar, for each text.
 use Rattle.std.specs.Prelude.{◌≡◌, ◌↔◌, ℕ, List}
 use Rattle.lexemes.specs.declared.place.Place.{Place}
-use Rattle.lexemes.specs.Tokens.{tokens}
+use Rattle.auth_syntax.specs.ProgramTokens.{text_tokens}
 use Rattle.auth_syntax.specs.Syntax.{Program}
 use Rattle.auth_syntax.specs.Grammar.{IsProgramText, nesting_limit}
 use Rattle.auth_syntax.specs.Parsing.{parsed, Tree, FirstFault}
@@ -23,10 +23,10 @@ OneIsWritten =
 abbrev pub FirstFaultIsFirst : Type 0
 FirstFaultIsFirst =
     (text : List ℕ) (kind : SyntaxKind) (at : Place) → parsed text ≡ FirstFault kind at
-    → IsFirstFault (tokens text) kind at
+    → IsFirstFault (text_tokens text) kind at
 
 -- Such a fault is told, where the tokens before it can be gone on with within the limit itself, and it isn't one of nesting.
 abbrev pub FirstFaultIsTold : Type 0
 FirstFaultIsTold =
-    (text : List ℕ) (kind : SyntaxKind) (at : Place) (fault : IsFirstFault (tokens text) kind at)
+    (text : List ℕ) (kind : SyntaxKind) (at : Place) (fault : IsFirstFault (text_tokens text) kind at)
     → CanGoOn nesting_limit fault.front → (kind ≡ TooNested → ⊥) → parsed text ≡ FirstFault kind at

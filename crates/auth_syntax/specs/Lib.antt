@@ -1,4 +1,5 @@
 pub mod Syntax
+pub mod ProgramTokens
 pub mod Grammar
 pub mod Parsing
 pub mod TreeParts

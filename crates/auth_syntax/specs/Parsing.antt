@@ -1,17 +1,21 @@
 -- Parsing as a function: the tree of a text, found from left to right with one token of lookahead, or the first fault: that of the first
 -- token that is faulty or is not allowed where it stands.
-use Rattle.std.specs.Prelude.{ℕ, zero, suc, Bool, true, false, List, [], ◌∷◌, Option, Some, None, if◌then◌else◌}
+use Rattle.std.specs.Prelude.{ℕ, zero, suc, ℤ, pos, negsuc, Bool, true, false, List, [], ◌∷◌, Option, Some, None, if◌then◌else◌}
+use Rattle.core_terms.specs.declared.format.Format.{Format}
+use Rattle.core_terms.specs.Types.{is_length}
 use Rattle.core_terms.specs.declared.term.BinaryOperator.{BinaryOperator}
 use Rattle.lexemes.specs.declared.place.Place.{Place}
-use Rattle.lexemes.specs.Tokens.{Token, KeywordToken, MarkToken, LowerToken, UpperToken, IntToken, TextToken, Tokens, Next, End, Faulty, tokens, count}
+use Rattle.lexemes.specs.Tokens.{Token, KeywordToken, MarkToken, LowerToken, UpperToken, IntToken, TextToken, Tokens, Next, End, Faulty, count}
 use Rattle.lexemes.specs.declared.token.Keyword.{Keyword}
-use Rattle.lexemes.specs.declared.token.Keyword.TheVariants.{«Type» as TypeWord, State as StateWord, Fun as FunWord, Init as InitWord, Query as QueryWord, Update as UpdateWord, Let as LetWord, In as InWord, Match as MatchWord, With as WithWord, End as EndWord, If as IfWord, Then as ThenWord, Else as ElseWord, Auth as AuthWord, Unauth as UnauthWord, Fst as FstWord, Snd as SndWord, Unit as UnitWord, Bool as BoolWord, Int as IntWord, Text as TextWord, True as TrueWord, False as FalseWord, Len as LenWord, Not as NotWord, Binary as BinaryWord}
-use Rattle.lexemes.specs.declared.token.Mark.TheVariants.{LeftParenthesis, RightParenthesis, Comma, Semicolon, Colon, EqualsSign, Bar, Arrow}
+use Rattle.lexemes.specs.declared.token.Keyword.TheVariants.{«Type» as TypeWord, State as StateWord, Fun as FunWord, Init as InitWord, Query as QueryWord, Update as UpdateWord, Let as LetWord, In as InWord, Match as MatchWord, With as WithWord, End as EndWord, If as IfWord, Then as ThenWord, Else as ElseWord, Auth as AuthWord, Unauth as UnauthWord, Fst as FstWord, Snd as SndWord, Unit as UnitWord, Bool as BoolWord, Int as IntWord, Text as TextWord, True as TrueWord, False as FalseWord, Len as LenWord, Not as NotWord, Vec as VecWord, VecFill as VecFillWord, VecGet as VecGetWord, VecPut as VecPutWord, Binary as BinaryWord}
+use Rattle.lexemes.specs.declared.token.Mark.TheVariants.{LeftParenthesis, RightParenthesis, Comma, Semicolon, Colon, EqualsSign, Bar, Arrow, LeftBracket, RightBracket}
 use Rattle.lexemes.specs.declared.fault.SyntaxKind.{SyntaxKind}
-use Rattle.lexemes.specs.declared.fault.SyntaxKind.TheVariants.{Expected, TooNested}
+use Rattle.lexemes.specs.declared.fault.SyntaxKind.TheVariants.{Lexical, Expected, TooNested}
+use Rattle.lexemes.specs.declared.fault.LexicalFault.TheVariants.{NumberRange}
 use Rattle.lexemes.specs.Readings.{Reading, Found, FaultAt, then_read, refused, read_mark, read_keyword, read_separator}
-use Rattle.auth_syntax.specs.Syntax.{NameSyntax, TypeSyntax, UnitTypeSyntax, BoolTypeSyntax, IntTypeSyntax, TextTypeSyntax, NamedTypeSyntax, AuthTypeSyntax, PairTypeSyntax, UnaryOperation, FstOperation, SndOperation, AuthOperation, UnauthOperation, LenOperation, NotOperation, ExpSyntax, UnitSyntax, BoolSyntax, IntSyntax, TextSyntax, LocalSyntax, PairSyntax, UnarySyntax, BinarySyntax, CallSyntax, ConstructorSyntax, LetSyntax, IfSyntax, MatchSyntax, ExpsSyntax, NoExp, AndExp, ArmsSyntax, NoArmSyntax, AndArmSyntax, ParameterSyntax, KindSyntax, InnerSyntax, InitSyntax, QuerySyntax, UpdateSyntax, FunctionSyntax, ConstructorDeclaration, DeclarationSyntax, TypeDeclaration, StateDeclaration, FunctionDeclaration, Program}
-use Rattle.auth_syntax.specs.Grammar.{nesting_limit}
+use Rattle.auth_syntax.specs.Syntax.{NameSyntax, TypeSyntax, UnitTypeSyntax, BoolTypeSyntax, IntTypeSyntax, TextTypeSyntax, NamedTypeSyntax, AuthTypeSyntax, PairTypeSyntax, VecTypeSyntax, UnaryOperation, FstOperation, SndOperation, AuthOperation, UnauthOperation, LenOperation, NotOperation, ArrayOperation, FillOperation, GetOperation, PutOperation, ExpSyntax, UnitSyntax, BoolSyntax, IntSyntax, TextSyntax, LocalSyntax, PairSyntax, UnarySyntax, BinarySyntax, CallSyntax, ConstructorSyntax, OperateSyntax, LetSyntax, IfSyntax, MatchSyntax, ExpsSyntax, NoExp, AndExp, ArmsSyntax, NoArmSyntax, AndArmSyntax, ParameterSyntax, KindSyntax, InnerSyntax, InitSyntax, QuerySyntax, UpdateSyntax, FunctionSyntax, ConstructorDeclaration, DeclarationSyntax, TypeDeclaration, StateDeclaration, FunctionDeclaration, Program}
+use Rattle.auth_syntax.specs.ProgramTokens.{read_format, text_tokens}
+use Rattle.auth_syntax.specs.Grammar.{nesting_limit, others_of}
 
 -- nothing more may be nested: a token that would begin something nested is told apart from one that begins nothing
 abbrev pub too_nested : {A : Type 0} → (Token → Bool) → Tokens → Reading A
@@ -44,7 +48,23 @@ abbrev pub read_optional_list : {A : Type 0} → (Tokens → Reading A) → Toke
 read_optional_list one (Next at (MarkToken LeftParenthesis) rest) = read_list one (count rest) rest
 read_optional_list one tokens = Found [] tokens
 
--- the type `auth t`, and a pair of types, behind their first token; `part` reads a part
+-- the length of an array, from 1 to 64; another int is out of range
+abbrev pub as_length : ℤ → Place → Tokens → Reading ℕ
+as_length (pos n) at rest = if is_length n then Found n rest else FaultAt (Lexical NumberRange) at
+as_length (negsuc n) at rest = FaultAt (Lexical NumberRange) at
+
+abbrev pub read_int_length : Tokens → Reading ℕ
+read_int_length (Next at (IntToken z) rest) = as_length z at rest
+read_int_length tokens = refused tokens
+
+-- the same in brackets
+abbrev pub read_length : Tokens → Reading ℕ
+read_length tokens =
+    then_read (read_mark LeftBracket tokens) (λ _ tokens.
+    then_read (read_int_length tokens) (λ n tokens.
+    then_read (read_mark RightBracket tokens) (λ _ tokens. Found n tokens)))
+
+-- the type `auth t`, a pair of types, and an array of so many, behind their first token; `part` reads a part
 abbrev pub read_auth_type : (Tokens → Reading TypeSyntax) → Place → Tokens → Reading TypeSyntax
 read_auth_type part at tokens = then_read (part tokens) (λ inner rest. Found (AuthTypeSyntax at inner) rest)
 
@@ -54,6 +74,11 @@ read_pair_type part at tokens =
     then_read (read_mark Comma tokens) (λ _ tokens.
     then_read (part tokens) (λ second tokens.
     then_read (read_mark RightParenthesis tokens) (λ _ tokens. Found (PairTypeSyntax at first second) tokens))))
+
+abbrev pub read_array_type : (Tokens → Reading TypeSyntax) → Place → Tokens → Reading TypeSyntax
+read_array_type part at tokens =
+    then_read (read_length tokens) (λ n tokens.
+    then_read (part tokens) (λ item rest. Found (VecTypeSyntax at n item) rest))
 
 -- the operation whose word a keyword is
 abbrev pub unary_of : Keyword → Option UnaryOperation
@@ -68,6 +93,13 @@ unary_of keyword = None
 abbrev pub binary_of : Keyword → Option BinaryOperator
 binary_of (BinaryWord operation) = Some operation
 binary_of keyword = None
+
+-- what stands behind the word of an operation on arrays, up to the parenthesis before its operands
+abbrev pub read_brackets : Keyword → Place → Tokens → Reading ArrayOperation
+read_brackets VecFillWord at tokens = then_read (read_length tokens) (λ n tokens. Found (FillOperation n) tokens)
+read_brackets VecGetWord at tokens = Found GetOperation tokens
+read_brackets VecPutWord at tokens = Found PutOperation tokens
+read_brackets keyword at tokens = FaultAt Expected at
 
 -- expressions in a row, from a list of them
 abbrev pub in_a_row : List ExpSyntax → ExpsSyntax
@@ -107,6 +139,24 @@ read_binary part at operation tokens =
     then_read (read_mark Comma tokens) (λ _ tokens.
     then_read (part tokens) (λ second tokens.
     then_read (read_mark RightParenthesis tokens) (λ _ tokens. Found (BinarySyntax at operation first second) tokens)))))
+
+-- one and so many others, with commas between them, and the parenthesis that ends them
+abbrev pub read_so_many : (Tokens → Reading ExpSyntax) → ℕ → Tokens → Reading (List ExpSyntax)
+read_so_many part zero tokens =
+    then_read (part tokens) (λ last tokens.
+    then_read (read_mark RightParenthesis tokens) (λ _ tokens. Found (last ∷ []) tokens))
+read_so_many part (suc n) tokens =
+    then_read (part tokens) (λ first tokens.
+    then_read (read_mark Comma tokens) (λ _ tokens.
+    then_read (read_so_many part n tokens) (λ others tokens. Found (first ∷ others) tokens)))
+
+-- behind the word of an operation on arrays: its length, where it has one, and its operands
+abbrev pub read_operate : (Tokens → Reading ExpSyntax) → Place → Keyword → Tokens → Reading ExpSyntax
+read_operate part at keyword tokens =
+    then_read (read_brackets keyword at tokens) (λ operation tokens.
+    then_read (read_mark LeftParenthesis tokens) (λ _ tokens.
+    then_read (read_so_many part (others_of operation) tokens) (λ operands tokens.
+    Found (OperateSyntax at operation (in_a_row operands)) tokens)))
 
 -- behind `let`, `if` and `match`
 abbrev pub read_let : (Tokens → Reading ExpSyntax) → Place → Tokens → Reading ExpSyntax
@@ -165,6 +215,7 @@ begins_type (KeywordToken BoolWord) = true
 begins_type (KeywordToken IntWord) = true
 begins_type (KeywordToken TextWord) = true
 begins_type (KeywordToken AuthWord) = true
+begins_type (KeywordToken VecWord) = true
 begins_type (LowerToken name) = true
 begins_type (MarkToken LeftParenthesis) = true
 begins_type token = false
@@ -178,6 +229,7 @@ type_from part at (KeywordToken TextWord) rest = Found (TextTypeSyntax at) rest
 type_from part at (LowerToken name) rest = Found (NamedTypeSyntax at name) rest
 type_from part at (KeywordToken AuthWord) rest = read_auth_type part at rest
 type_from part at (MarkToken LeftParenthesis) rest = read_pair_type part at rest
+type_from part at (KeywordToken VecWord) rest = read_array_type part at rest
 type_from part at token rest = FaultAt Expected at
 
 -- a type, of at most so many levels
@@ -202,6 +254,9 @@ word_begins FalseWord = true
 word_begins LetWord = true
 word_begins IfWord = true
 word_begins MatchWord = true
+word_begins VecFillWord = true
+word_begins VecGetWord = true
+word_begins VecPutWord = true
 word_begins keyword = operation_begins (unary_of keyword) (binary_of keyword)
 
 -- whether a token begins an expression
@@ -230,6 +285,9 @@ word_from part at FalseWord rest = Found (BoolSyntax at false) rest
 word_from part at LetWord rest = read_let part at rest
 word_from part at IfWord rest = read_if part at rest
 word_from part at MatchWord rest = read_match part at rest
+word_from part at VecFillWord rest = read_operate part at VecFillWord rest
+word_from part at VecGetWord rest = read_operate part at VecGetWord rest
+word_from part at VecPutWord rest = read_operate part at VecPutWord rest
 word_from part at keyword rest = operation_from part at (unary_of keyword) (binary_of keyword) rest
 
 -- the expression that a token begins
@@ -335,10 +393,15 @@ end_of (Next at token rest) = end_of rest
 end_of (End at) = at
 end_of (Faulty at kind) = at
 
-abbrev pub as_program : Reading (List DeclarationSyntax) → Parsed
-as_program (Found declarations rest) = Tree (record { declarations = declarations; end = end_of rest })
-as_program (FaultAt kind at) = FirstFault kind at
+abbrev pub as_program : Option Format → Reading (List DeclarationSyntax) → Parsed
+as_program format (Found declarations rest) = Tree (record { format = format; declarations = declarations; end = end_of rest })
+as_program format (FaultAt kind at) = FirstFault kind at
+
+-- behind its format
+abbrev pub read_program : Reading (Option Format) → Parsed
+read_program (Found format rest) = as_program format (read_declarations (count rest) rest)
+read_program (FaultAt kind at) = FirstFault kind at
 
 -- the program that a text is one of, or the text's first fault
 abbrev pub parsed : List ℕ → Parsed
-parsed text = let found = tokens text in as_program (read_declarations (count found) found)
+parsed text = read_program (read_format (text_tokens text))

@@ -1,17 +1,20 @@
 -- Parts of expressions as the code reads them: each with what has to stand behind it.
-use Rattle.std.specs.Prelude.{◌≡◌, ◌≢◌, ℕ, ⊤, Result, Ok, Err, Bool, true, false, Option, Some, None, List, Box, Vec, option_map}
+use Rattle.std.specs.Prelude.{◌≡◌, ◌≢◌, ℕ, zero, suc, ⊤, Result, Ok, Err, Bool, true, false, Option, Some, None, List, Box, Vec, option_map}
 use Rattle.std.specs.declared.alloc.Global.{Global}
 use Rattle.core_terms.specs.declared.term.BinaryOperator.{BinaryOperator}
 use Rattle.lexemes.specs.declared.place.Place.{Place}
+use Rattle.lexemes.specs.declared.token.Keyword.{Keyword}
+use Rattle.lexemes.specs.declared.token.Mark.{Mark}
 use Rattle.lexemes.specs.declared.token.Mark.TheVariants.{LeftParenthesis, RightParenthesis, Comma, EqualsSign, Arrow}
-use Rattle.lexemes.specs.declared.fault.SyntaxKind.TheVariants.{Expected}
+use Rattle.lexemes.specs.declared.fault.SyntaxKind.TheVariants.{Lexical, Expected}
+use Rattle.lexemes.specs.declared.fault.LexicalFault.TheVariants.{NumberRange}
 use Rattle.core_terms.specs.Texts.{bytes_of}
 use Rattle.core_terms.specs.declared.fault.Fault.TheVariants.{At, NoMemory}
 use Rattle.lexemes.specs.Tokens.{Token, KeywordToken, MarkToken, LowerToken, UpperToken, IntToken, TextToken, Tokens, Next, count}
 use Rattle.lexemes.specs.Readings.{SyntaxFault, Reading, Found, FaultAt, then_read, read_mark, read_keyword}
 use Rattle.lexemes.specs.Remaining.{read_if_mark}
-use Rattle.auth_syntax.specs.Syntax.{NameSyntax, UnaryOperation, ExpSyntax, CallSyntax, ConstructorSyntax, LocalSyntax, NoExp}
-use Rattle.auth_syntax.specs.Parsing.{begins_expression, in_a_row, read_expression, read_list, read_lower, read_upper, read_optional_list}
+use Rattle.auth_syntax.specs.Syntax.{NameSyntax, UnaryOperation, ArrayOperation, ExpSyntax, CallSyntax, ConstructorSyntax, LocalSyntax, NoExp}
+use Rattle.auth_syntax.specs.Parsing.{begins_expression, in_a_row, read_brackets, read_expression, read_list, read_lower, read_upper, read_optional_list}
 use Rattle.auth_syntax.specs.Trees.{name_of, names_of, unary_of, boxed_of, expressions_of}
 use Rattle.auth_syntax.specs.declared.tree.ExpTree.{ExpTree}
 use Rattle.auth_syntax.specs.declared.parser.expressions.Behind.{Behind}
@@ -89,6 +92,11 @@ abbrev pub as_constructor : Place → List ℕ → Option (List ExpSyntax) → T
 as_constructor at name (Some operands) tokens = Found (ConstructorSyntax at name (in_a_row operands)) tokens
 as_constructor at name None tokens = Found (ConstructorSyntax at name NoExp) tokens
 
+-- the length of an array, where the int of its place is one
+abbrev pub length_reading : Option ℕ → Place → Tokens → Reading ℕ
+length_reading (Some n) at rest = Found n rest
+length_reading None at rest = FaultAt (Lexical NumberRange) at
+
 -- an operation, with the parenthesis before its operands
 pub data OperationSyntax : Type 0 where
   OnOne : (operation : UnaryOperation) → OperationSyntax
@@ -102,6 +110,17 @@ abbrev pub read_operation : Place → Option UnaryOperation → Option BinaryOpe
 read_operation at (Some operation) binary tokens = then_read (read_mark LeftParenthesis tokens) (λ _ tokens. Found (OnOne operation) tokens)
 read_operation at None (Some operation) tokens = then_read (read_mark LeftParenthesis tokens) (λ _ tokens. Found (OnTwo operation) tokens)
 read_operation at None None tokens = FaultAt Expected at
+
+-- an operation on arrays, behind its word, with the parenthesis before its operands
+abbrev pub read_opened : Keyword → Place → Tokens → Reading ArrayOperation
+read_opened keyword at tokens =
+    then_read (read_brackets keyword at tokens) (λ operation tokens.
+    then_read (read_mark LeftParenthesis tokens) (λ _ tokens. Found operation tokens))
+
+-- what stands behind an operand, behind which so many others are left
+abbrev pub behind_operand : ℕ → Mark
+behind_operand zero = RightParenthesis
+behind_operand (suc left) = Comma
 
 -- the name that is bound, with the sign behind it
 abbrev pub read_binding : Tokens → Reading NameSyntax

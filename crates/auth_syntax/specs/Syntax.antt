@@ -1,5 +1,6 @@
 -- The syntax trees of programs: what a text says, without its blanks, comments and marks. Each node has the place of its first token.
-use Rattle.std.specs.Prelude.{ℕ, ℤ, Bool, List}
+use Rattle.std.specs.Prelude.{ℕ, ℤ, Bool, List, Option}
+use Rattle.core_terms.specs.declared.format.Format.{Format}
 use Rattle.core_terms.specs.declared.term.BinaryOperator.{BinaryOperator}
 use Rattle.lexemes.specs.declared.place.Place.{Place}
 
@@ -14,10 +15,17 @@ pub data TypeSyntax : Type 0 where
   NamedTypeSyntax : (at : Place) (name : List ℕ) → TypeSyntax
   AuthTypeSyntax : (at : Place) (inner : TypeSyntax) → TypeSyntax
   PairTypeSyntax : (at : Place) (first second : TypeSyntax) → TypeSyntax
+  -- an array of so many
+  VecTypeSyntax : (at : Place) (n : ℕ) (item : TypeSyntax) → TypeSyntax
 
 -- the operations on one operand
 pub data UnaryOperation : Type 0 where
   FstOperation SndOperation AuthOperation UnauthOperation LenOperation NotOperation : UnaryOperation
+
+-- the operations on arrays; the first makes one of so many
+pub data ArrayOperation : Type 0 where
+  FillOperation : (n : ℕ) → ArrayOperation
+  GetOperation PutOperation : ArrayOperation
 
 mutual
   -- an expression; locals, functions and constructors go by their names
@@ -32,6 +40,7 @@ mutual
     BinarySyntax : (at : Place) (operation : BinaryOperator) (first second : ExpSyntax) → ExpSyntax
     -- a call, with its arguments; a constructor, which is written without parentheses where it has no fields
     CallSyntax ConstructorSyntax : (at : Place) (name : List ℕ) (operands : ExpsSyntax) → ExpSyntax
+    OperateSyntax : (at : Place) (operation : ArrayOperation) (operands : ExpsSyntax) → ExpSyntax
     LetSyntax : (at : Place) (name : NameSyntax) (bound body : ExpSyntax) → ExpSyntax
     IfSyntax : (at : Place) (test first other : ExpSyntax) → ExpSyntax
     MatchSyntax : (at : Place) (subject : ExpSyntax) (arms : ArmsSyntax) → ExpSyntax
@@ -75,8 +84,9 @@ pub data DeclarationSyntax : Type 0 where
   StateDeclaration : (at : Place) (of_type : TypeSyntax) → DeclarationSyntax
   FunctionDeclaration : (at : Place) (function : FunctionSyntax) → DeclarationSyntax
 
--- a program: its declarations in order, and the place behind its last byte
+-- a program: its format, where it tells one, its declarations in order, and the place behind its last byte
 pub record Program : Type 0 where
+  pub format : Option Format
   pub declarations : List DeclarationSyntax
   pub end : Place
 
@@ -92,6 +102,7 @@ place_of (UnarySyntax at operation operand) = at
 place_of (BinarySyntax at operation first second) = at
 place_of (CallSyntax at name operands) = at
 place_of (ConstructorSyntax at name operands) = at
+place_of (OperateSyntax at operation operands) = at
 place_of (LetSyntax at name bound body) = at
 place_of (IfSyntax at test first other) = at
 place_of (MatchSyntax at subject arms) = at
@@ -104,3 +115,4 @@ place_of_type (TextTypeSyntax at) = at
 place_of_type (NamedTypeSyntax at name) = at
 place_of_type (AuthTypeSyntax at inner) = at
 place_of_type (PairTypeSyntax at first second) = at
+place_of_type (VecTypeSyntax at n item) = at

@@ -2,7 +2,7 @@
 -- expressions it has.
 use Rattle.std.specs.Prelude.{ℕ, suc, ◌+◌, ◌≤◌, List, [], ◌∷◌, ◌++◌, length, map, flat_map, All}
 use Rattle.lexemes.specs.Tokens.{name_limit, text_limit}
-use Rattle.auth_syntax.specs.Syntax.{NameSyntax, TypeSyntax, NamedTypeSyntax, AuthTypeSyntax, PairTypeSyntax, ExpSyntax, TextSyntax, LocalSyntax, PairSyntax, UnarySyntax, BinarySyntax, CallSyntax, ConstructorSyntax, LetSyntax, IfSyntax, MatchSyntax, ExpsSyntax, NoExp, AndExp, ArmsSyntax, NoArmSyntax, AndArmSyntax, ParameterSyntax, ConstructorDeclaration, DeclarationSyntax, TypeDeclaration, StateDeclaration, FunctionDeclaration}
+use Rattle.auth_syntax.specs.Syntax.{NameSyntax, TypeSyntax, NamedTypeSyntax, AuthTypeSyntax, PairTypeSyntax, VecTypeSyntax, ExpSyntax, TextSyntax, LocalSyntax, PairSyntax, UnarySyntax, BinarySyntax, CallSyntax, ConstructorSyntax, OperateSyntax, LetSyntax, IfSyntax, MatchSyntax, ExpsSyntax, NoExp, AndExp, ArmsSyntax, NoArmSyntax, AndArmSyntax, ParameterSyntax, ConstructorDeclaration, DeclarationSyntax, TypeDeclaration, StateDeclaration, FunctionDeclaration}
 use Rattle.auth_syntax.specs.Grammar.{type_levels, expression_levels, nesting_limit}
 
 -- how many expressions a program has at most
@@ -17,6 +17,7 @@ abbrev mutual
   expressions_in (BinarySyntax at operation first second) = suc (expressions_in first + expressions_in second)
   expressions_in (CallSyntax at name operands) = suc (expressions_in_row operands)
   expressions_in (ConstructorSyntax at name operands) = suc (expressions_in_row operands)
+  expressions_in (OperateSyntax at operation operands) = suc (expressions_in_row operands)
   expressions_in (LetSyntax at name bound body) = suc (expressions_in bound + expressions_in body)
   expressions_in (IfSyntax at test first other) = suc (expressions_in test + expressions_in first + expressions_in other)
   expressions_in (MatchSyntax at subject arms) = suc (expressions_in subject + expressions_in_arms arms)
@@ -35,6 +36,7 @@ abbrev pub names_in_type : TypeSyntax → List (List ℕ)
 names_in_type (NamedTypeSyntax at name) = name ∷ []
 names_in_type (AuthTypeSyntax at inner) = names_in_type inner
 names_in_type (PairTypeSyntax at first second) = names_in_type first ++ names_in_type second
+names_in_type (VecTypeSyntax at n item) = names_in_type item
 names_in_type t = []
 
 -- the names, without their places
@@ -50,6 +52,7 @@ abbrev mutual
   names_in (BinarySyntax at operation first second) = names_in first ++ names_in second
   names_in (CallSyntax at name operands) = name ∷ names_in_row operands
   names_in (ConstructorSyntax at name operands) = name ∷ names_in_row operands
+  names_in (OperateSyntax at operation operands) = names_in_row operands
   names_in (LetSyntax at name bound body) = name.name ∷ names_in bound ++ names_in body
   names_in (IfSyntax at test first other) = names_in test ++ names_in first ++ names_in other
   names_in (MatchSyntax at subject arms) = names_in subject ++ names_in_arms arms
@@ -82,6 +85,7 @@ abbrev mutual
   texts_in (BinarySyntax at operation first second) = texts_in first ++ texts_in second
   texts_in (CallSyntax at name operands) = texts_in_row operands
   texts_in (ConstructorSyntax at name operands) = texts_in_row operands
+  texts_in (OperateSyntax at operation operands) = texts_in_row operands
   texts_in (LetSyntax at name bound body) = texts_in bound ++ texts_in body
   texts_in (IfSyntax at test first other) = texts_in test ++ texts_in first ++ texts_in other
   texts_in (MatchSyntax at subject arms) = texts_in subject ++ texts_in_arms arms

@@ -2,14 +2,16 @@
 use Rattle.std.specs.Prelude.{List, [], ◌∷◌, map, Box, Vec}
 use Rattle.std.specs.declared.alloc.Global.{Global}
 use Rattle.core_terms.specs.Texts.{bytes_of}
-use Rattle.auth_syntax.specs.Syntax.{NameSyntax, TypeSyntax, UnitTypeSyntax, BoolTypeSyntax, IntTypeSyntax, TextTypeSyntax, NamedTypeSyntax, AuthTypeSyntax, PairTypeSyntax, UnaryOperation, FstOperation, SndOperation, AuthOperation, UnauthOperation, LenOperation, NotOperation, ExpSyntax, UnitSyntax, BoolSyntax, IntSyntax, TextSyntax, LocalSyntax, PairSyntax, UnarySyntax, BinarySyntax, CallSyntax, ConstructorSyntax, LetSyntax, IfSyntax, MatchSyntax, ArmsSyntax, NoArmSyntax, AndArmSyntax, ParameterSyntax, KindSyntax, InnerSyntax, InitSyntax, QuerySyntax, UpdateSyntax, FunctionSyntax, ConstructorDeclaration, DeclarationSyntax, TypeDeclaration, StateDeclaration, FunctionDeclaration}
+use Rattle.auth_syntax.specs.Syntax.{NameSyntax, TypeSyntax, UnitTypeSyntax, BoolTypeSyntax, IntTypeSyntax, TextTypeSyntax, NamedTypeSyntax, AuthTypeSyntax, PairTypeSyntax, VecTypeSyntax, UnaryOperation, FstOperation, SndOperation, AuthOperation, UnauthOperation, LenOperation, NotOperation, ArrayOperation, FillOperation, GetOperation, PutOperation, ExpSyntax, UnitSyntax, BoolSyntax, IntSyntax, TextSyntax, LocalSyntax, PairSyntax, UnarySyntax, BinarySyntax, CallSyntax, ConstructorSyntax, OperateSyntax, LetSyntax, IfSyntax, MatchSyntax, ArmsSyntax, NoArmSyntax, AndArmSyntax, ParameterSyntax, KindSyntax, InnerSyntax, InitSyntax, QuerySyntax, UpdateSyntax, FunctionSyntax, ConstructorDeclaration, DeclarationSyntax, TypeDeclaration, StateDeclaration, FunctionDeclaration}
 use Rattle.auth_syntax.specs.Parsing.{in_a_row}
 use Rattle.lexemes.specs.declared.place.Place.{Place}
 use Rattle.auth_syntax.specs.declared.tree.PlacedName.{PlacedName}
 use Rattle.auth_syntax.specs.declared.tree.TypeTree.{TypeTree}
-use Rattle.auth_syntax.specs.declared.tree.TypeTree.TheVariants.{UnitType, BoolType, IntType, TextType, NamedType, AuthType', PairType'}
+use Rattle.auth_syntax.specs.declared.tree.TypeTree.TheVariants.{UnitType, BoolType, IntType, TextType, NamedType, AuthType', PairType', VecType'}
 use Rattle.auth_syntax.specs.declared.tree.UnaryOperator.{UnaryOperator}
 use Rattle.auth_syntax.specs.declared.tree.UnaryOperator.TheVariants.{Fst, Snd, Auth, Unauth, Len, Not}
+use Rattle.auth_syntax.specs.declared.tree.ArrayOperator.{ArrayOperator}
+use Rattle.auth_syntax.specs.declared.tree.ArrayOperator.TheVariants.{VecFill, VecGet, VecPut}
 use Rattle.auth_syntax.specs.declared.tree.ExpTree.{ExpTree}
 use Rattle.auth_syntax.specs.declared.tree.ExpTree.TheOpen.{ExpTree-F, Arm-F}
 use Rattle.auth_syntax.specs.declared.tree.ExpTree.TheFolds.{fold-ExpTree, fold-Arm}
@@ -39,6 +41,7 @@ type_of (TextType at) = TextTypeSyntax at
 type_of (NamedType at name) = NamedTypeSyntax at name
 type_of (AuthType' at p inner) = AuthTypeSyntax at (type_of inner)
 type_of (PairType' at p first q second) = PairTypeSyntax at (type_of first) (type_of second)
+type_of (VecType' at n p item) = VecTypeSyntax at n (type_of item)
 
 abbrev pub boxed_type_of : Box TypeTree Global → TypeSyntax
 boxed_type_of tree = type_of tree.value
@@ -54,6 +57,12 @@ unary_of Auth = AuthOperation
 unary_of Unauth = UnauthOperation
 unary_of Len = LenOperation
 unary_of Not = NotOperation
+
+-- the operations on arrays
+abbrev pub array_of : ArrayOperator → ArrayOperation
+array_of (VecFill n) = FillOperation n
+array_of VecGet = GetOperation
+array_of VecPut = PutOperation
 
 -- an arm of a match: its constructor, the names of its fields and its body
 pub record ArmSyntax : Type 0 where
@@ -78,6 +87,7 @@ expression_from_parts (ExpTree-F.Unary at operation operand) = UnarySyntax at (u
 expression_from_parts (ExpTree-F.Binary at operation first second) = BinarySyntax at operation first.value second.value
 expression_from_parts (ExpTree-F.Call at name operands) = CallSyntax at name (in_a_row operands.items)
 expression_from_parts (ExpTree-F.Constructor at name operands) = ConstructorSyntax at name (in_a_row operands.items)
+expression_from_parts (ExpTree-F.Operate at operation operands) = OperateSyntax at (array_of operation) (in_a_row operands.items)
 expression_from_parts (ExpTree-F.Let at name bound body) = LetSyntax at (name_of name) bound.value body.value
 expression_from_parts (ExpTree-F.If at test first other) = IfSyntax at test.value first.value other.value
 expression_from_parts (ExpTree-F.Match at subject arms) = MatchSyntax at subject.value (arms_in_a_row arms.items)

@@ -4,13 +4,15 @@
 ghost use Rattle.auth_syntax.specs.TreeLimits.{IsWithinLimits};
 ghost use Rattle.auth_syntax.specs.TreeParts.{declarations_of};
 
-use core_terms::{BinaryOperator, Name, Text};
+use core_terms::{BinaryOperator, Format, Name, Text};
 use lexemes::place::Place;
 
-/// A program: its declarations, in order, and the place behind the last byte of its text. Its names have 1 to 64 bytes, its text literals
-/// at most 65,532, no type and no body has more than 100 levels, and there are at most 262,144 expressions in all.
+/// A program: its format, where it tells one, its declarations, in order, and the place behind the last byte of its text. Its names have 1
+/// to 64 bytes, its text literals at most 65,532, no type and no body has more than 100 levels, and there are at most 262,144 expressions
+/// in all. A parsed one has arrays in the second format alone, each of 1 to 64 elements.
 #[derive(Drop)]
 pub struct Ast {
+    pub format: Option<Format>,
     pub declarations: Vec<Declaration>,
     pub end: Place,
     pub ghost within: { IsWithinLimits (declarations_of declarations) },
@@ -95,6 +97,8 @@ pub enum TypeTree {
     AuthType(Place, Box<TypeTree>),
     /// Two types between parentheses.
     PairType(Place, Box<TypeTree>, Box<TypeTree>),
+    /// `vec`, a length in brackets and the type of the elements
+    VecType(Place, u8, Box<TypeTree>),
 }
 
 /// An operation on one operand.
@@ -106,6 +110,15 @@ pub enum UnaryOperator {
     Unauth,
     Len,
     Not,
+}
+
+/// An operation on arrays, with what stands between its word and its operands.
+#[derive(Clone, Copy, Debug, PartialEq, Eq)]
+pub enum ArrayOperator {
+    /// An array of so many; its operand is each of them.
+    VecFill(u8),
+    VecGet,
+    VecPut,
 }
 
 /// An expression, as it is written.
@@ -129,6 +142,8 @@ pub enum ExpTree {
     Call(Place, Name, Vec<ExpTree>),
     /// The name of a constructor, and its fields. One without fields is written without parentheses.
     Constructor(Place, Name, Vec<ExpTree>),
+    /// An operation on arrays, and its operands. A parsed one has as many as the operation wants.
+    Operate(Place, ArrayOperator, Vec<ExpTree>),
     /// `let name = bound in body`
     Let {
         at: Place,

@@ -4,6 +4,7 @@ ghost use Rattle.std.specs.Prelude.{◌≡◌, true, false, IfOk, MatchResult};
 ghost use Rattle.core_terms.specs.declared.fault.Fault.TheVariants.{At};
 ghost use Rattle.lexemes.specs.declared.fault.SyntaxKind.TheVariants.{Expected};
 ghost use Rattle.lexemes.specs.Tokens.{KeywordToken, Next, End, count};
+ghost use Rattle.auth_syntax.specs.ProgramTokens.{read_format, read_format_number};
 ghost use Rattle.auth_syntax.specs.Parsing.{read_bar, read_behind_parameters, read_constructor_declaration, read_constructors, read_declaration, read_declarations, read_function, read_function_declaration, read_list, read_parameter, read_state, read_type_declaration};
 ghost use Rattle.lexemes.specs.Remaining.{remaining};
 ghost use Rattle.lexemes.specs.TokenViews.{token_view};
@@ -17,11 +18,39 @@ use crate::tree::{
     ConstructorDeclaration, Declaration, Function, FunctionKind, Parameter, PlacedName,
     TypeDeclaration,
 };
+use core_terms::Format;
 use lexemes::fault::{SyntaxFault, SyntaxKind};
 use lexemes::lexer::Lexeme;
 use lexemes::parser::{Parser, PlacedToken};
 use lexemes::place::Place;
 use lexemes::token::{Keyword, Mark, Token};
+
+/// The word that tells a format.
+const FORMAT_WORD: &[u8] = b"format";
+
+/// What a program tells of its format: the word, a number and a semicolon; or none, where the word doesn't stand at the head.
+pub(crate) fn format(parser: &mut Parser<'_>) -> Result<Option<Format>, SyntaxFault>
+    ensures { Reads (λ format. format) (read_format (remaining parser.old)) result (remaining parser.new) }
+{
+    if !parser.if_lower(FORMAT_WORD)? {
+        return Ok(None);
+    }
+    let format = format_number(parser)?;
+    parser.mark(Mark::Semicolon)?;
+    Ok(Some(format))
+}
+
+/// The number of a format.
+fn format_number(parser: &mut Parser<'_>) -> Result<Format, SyntaxFault>
+    ensures { Reads (λ format. format) (read_format_number (remaining parser.old)) result (remaining parser.new) }
+{
+    let PlacedToken { at, token } = parser.token()?;
+    match token {
+        Token::Int(1) => Ok(Format::First),
+        Token::Int(2) => Ok(Format::Second),
+        _ => Err(SyntaxFault::At(SyntaxKind::Expected, at)),
+    }
+}
 
 /// All declarations up to the end of the text, and the place of that end.
 pub(crate) fn program(parser: &mut Parser<'_>) -> Result<(Vec<Declaration>, Place), SyntaxFault>

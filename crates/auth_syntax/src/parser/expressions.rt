@@ -2,19 +2,21 @@
 
 ghost use Rattle.std.specs.Prelude.{◌≡◌, ◌++◌, ◌∷◌, [], IfOk, List, OnOk, Option, option_map};
 ghost use Rattle.lexemes.specs.Tokens.{Tokens, count};
-ghost use Rattle.auth_syntax.specs.Parsing.{begins_expression, expression_from, operation_from, read_arm_separator, read_arms, read_expression, read_if, read_let, read_list, read_lower, read_match, read_optional_list, read_unit_or_pair, read_whole_expression, word_begins, word_from};
+ghost use Rattle.auth_syntax.specs.Parsing.{begins_expression, expression_from, operation_from, read_arm_separator, read_arms, read_expression, read_if, read_let, read_list, read_lower, read_match, read_operate, read_optional_list, read_so_many, read_unit_or_pair, read_whole_expression, word_begins, word_from};
+ghost use Rattle.auth_syntax.specs.Grammar.{others_of};
 ghost use Rattle.auth_syntax.specs.Parsing as parsing;
 ghost use Rattle.auth_syntax.specs.Arms.{read_arm};
-ghost use Rattle.auth_syntax.specs.Parts.{Begins, as_call, as_constructor, both_of, head_token, operands_of, operation_of, pattern_of, read_before, read_behind, read_binding, read_both, read_operands, read_operation, read_pattern, then_closed};
+ghost use Rattle.auth_syntax.specs.Parts.{Begins, as_call, as_constructor, both_of, head_token, operands_of, operation_of, pattern_of, read_before, read_behind, read_binding, read_both, behind_operand, read_opened, read_operands, read_operation, read_pattern, then_closed};
 ghost use Rattle.lexemes.specs.Remaining.{remaining};
 ghost use Rattle.lexemes.specs.TokenViews.{token_view};
-ghost use Rattle.auth_syntax.specs.Trees.{arm_of, arms_of, boxed_of, expression_of, expressions_of, name_of, names_of, unary_of};
+ghost use Rattle.auth_syntax.specs.Trees.{arm_of, arms_of, array_of, boxed_of, expression_of, expressions_of, name_of, names_of, unary_of};
 ghost use Rattle.lexemes.specs.Remaining.{Reads};
-ghost use Rattle.lexemes.specs.Readings.{Reading, read_separator, then_read};
+ghost use Rattle.lexemes.specs.Readings.{Reading, read_mark, read_separator, then_read};
 ghost use Rattle.auth_syntax.specs.Syntax.{ExpSyntax};
 
+use crate::parser::types::array_length;
 use crate::parser::{NESTING_LIMIT, lower, upper};
-use crate::tree::{Arm, ExpTree, PlacedName, UnaryOperator};
+use crate::tree::{Arm, ArrayOperator, ExpTree, PlacedName, UnaryOperator};
 use core_terms::{BinaryOperator, Name, Text};
 use lexemes::fault::{SyntaxFault, SyntaxKind};
 use lexemes::parser::{Parser, PlacedToken};
@@ -179,6 +181,9 @@ fn word(
         Keyword::Let => let_in(parser, at, levels),
         Keyword::If => conditional(parser, at, levels),
         Keyword::Match => matching(parser, at, levels),
+        Keyword::VecFill | Keyword::VecGet | Keyword::VecPut => {
+            operate(parser, at, keyword, levels)
+        }
         _ => operation(parser, at, keyword, levels),
     }
 }
@@ -203,6 +208,42 @@ fn operation(
             let (first, second) = both(parser, levels)?;
             Ok(ExpTree::Binary(at, operator, first, second))
         }
+    }
+}
+
+/// Behind the word of an operation on arrays: its length, where it has one, and its operands.
+#[cycle(expressions)]
+fn operate(
+    parser: &mut Parser<'_>,
+    at: Place,
+    keyword: Keyword,
+    levels: usize,
+) -> Result<ExpTree, SyntaxFault>
+    ensures { Reads expression_of (read_operate (read_expression levels) at keyword (remaining parser.old)) result (remaining parser.new) }
+{
+    let operator = array_operator(parser, at, keyword)?;
+    let operands = so_many(parser, levels, others_of(operator))?;
+    Ok(ExpTree::Operate(at, operator, operands))
+}
+
+/// An expression and so many others, and the parenthesis that ends them.
+#[cycle(expressions)]
+fn so_many(
+    parser: &mut Parser<'_>,
+    levels: usize,
+    others: usize,
+) -> Result<Vec<ExpTree>, SyntaxFault>
+    ensures { Reads expressions_of (read_so_many (read_expression levels) others (remaining parser.old)) result (remaining parser.new) }
+{
+    let mut expressions = Vec::new(parser.alloc);
+    let mut left = others;
+    'each: loop {
+        let next = expression(parser, levels)?;
+        counted(parser, &mut expressions, next, left)?;
+        if left == 0 {
+            return Ok(expressions);
+        }
+        left -= 1;
     }
 }
 
@@ -274,6 +315,53 @@ fn arm(parser: &mut Parser<'_>, levels: usize) -> Result<Arm, SyntaxFault>
         constructor: pattern.constructor,
         fields: pattern.fields,
         body,
+    })
+}
+
+/// An operation on arrays, behind its word, with the parenthesis before its operands.
+fn array_operator(
+    parser: &mut Parser<'_>,
+    at: Place,
+    keyword: Keyword,
+) -> Result<ArrayOperator, SyntaxFault>
+    ensures { Reads array_of (read_opened keyword at (remaining parser.old)) result (remaining parser.new) }
+{
+    let operator = match keyword {
+        Keyword::VecFill => ArrayOperator::VecFill(array_length(parser)?),
+        Keyword::VecGet => ArrayOperator::VecGet,
+        Keyword::VecPut => ArrayOperator::VecPut,
+        _ => return Err(SyntaxFault::At(SyntaxKind::Expected, at)),
+    };
+    parser.mark(Mark::LeftParenthesis)?;
+    Ok(operator)
+}
+
+/// How many operands an operation on arrays has behind its first.
+fn others_of(operator: ArrayOperator) -> usize
+    ensures { result ≡ others_of (array_of operator) }
+{
+    match operator {
+        ArrayOperator::VecFill(_) => 0,
+        ArrayOperator::VecGet => 1,
+        ArrayOperator::VecPut => 2,
+    }
+}
+
+/// Adds an expression to a list, and takes what stands behind it: a comma where others are left, else the parenthesis that ends them.
+fn counted(
+    parser: &mut Parser<'_>,
+    expressions: &mut Vec<ExpTree>,
+    next: ExpTree,
+    left: usize,
+) -> Result<(), SyntaxFault>
+    ensures added { OnOk result (expressions.new.items ≡ expressions.old.items ++ next ∷ []) }
+    ensures behind { Reads (λ _. tt) (read_mark (behind_operand left) (remaining parser.old)) result (remaining parser.new) }
+{
+    expressions.push(next)?;
+    parser.mark(if left == 0 {
+        Mark::RightParenthesis
+    } else {
+        Mark::Comma
     })
 }
 
@@ -517,5 +605,8 @@ fn word_begins(keyword: Keyword) -> bool
             | Keyword::Len
             | Keyword::Not
             | Keyword::Binary(_)
+            | Keyword::VecFill
+            | Keyword::VecGet
+            | Keyword::VecPut
     )
 }

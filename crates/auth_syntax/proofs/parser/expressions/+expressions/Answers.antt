@@ -1,17 +1,18 @@
-use Rattle.std.proofs.Common.{◌≡◌, ◌∙◌, refl, ap, subst, sym, arith}
+use Rattle.std.proofs.Common.{◌∙◌, refl, ap, subst, sym, arith}
 use Rattle.std.proofs.lemmas.Result.{err_from_is_err_and}
 use Rattle.lexemes.specs.Readings.{Reading}
 use Rattle.auth_syntax.specs.Parsing.{read_expression}
 use Rattle.auth_syntax.specs.Parsing as parsing
-use Rattle.auth_syntax.specs.Trees.{boxed_of, expression_of, expressions_of, arm_of, arms_of, name_of}
+use Rattle.auth_syntax.specs.Trees.{array_of, boxed_of, expression_of, expressions_of, arm_of, arms_of, name_of}
 use Rattle.lexemes.specs.Remaining.{Reads, remaining}
 use Rattle.auth_syntax.specs.Syntax.{ExpSyntax}
 use Rattle.auth_syntax.proofs.Faults.{refused_part}
-use Rattle.auth_syntax.proofs.PartsRead.{arm_is, binary_tree, call_is, constructor_is, if_is, if_tree, let_is, let_tree, match_is, match_tree, none_begun, operation_is, pair_tree, seen_as, unary_tree, unit_or_pair_is}
+use Rattle.auth_syntax.proofs.PartsRead.{arm_is, binary_tree, call_is, constructor_is, if_is, if_tree, let_is, let_tree, match_is, match_tree, none_begun, operate_is, operate_tree, operation_is, pair_tree, seen_as, unary_tree, unit_or_pair_is}
 use Rattle.auth_syntax.specs.Parts.{both_of, operands_of, operation_of, pattern_of}
 use Rattle.auth_syntax.proofs.LevelSteps.{read_expression-step}
 use Rattle.auth_syntax.proofs.Loops.{arms_by_one, expressions_by_one}
 use Rattle.auth_syntax.proofs.ListTurns.{fewer_left, list_ends, list_goes_on, no_sign, no_thing}
+use Rattle.auth_syntax.proofs.ManyTurns.{many_end, many_go_on, no_mark, no_operand}
 use Rattle.auth_syntax.proofs.parser.expressions.+expressions.Goals as goal
 
 pub expression-returns-in_err-at : goal.expression-returns-in_err-at
@@ -85,6 +86,30 @@ arm_list-each-preserved t c =
     (remaining c.arm.new.parser) (remaining c.arm_listed.new.parser) c.in_ok-next.next c.in_ok-next.ensures c.in_ok-arm_listed.field-0 c.in_ok-arm_listed.ensures.follows
     c.arm_listed.new.arms.items c.in_ok-arm_listed.ensures.added c.if-not-branch.false
 
+pub so_many-returns-in_err-next : goal.so_many-returns-in_err-next
+so_many-returns-in_err-next t c =
+    let r = c.from_residual in
+    no_operand c.args.levels c.args.others (remaining c.args.parser.now) c.each.expressions.items c.each.left (remaining c.each.parser) c.each.invariant
+    expressions_of r.result _ (remaining c.expression.new.parser) r.ensures.1 c.in_err-next.ensures
+
+pub so_many-returns-in_err-counted : goal.so_many-returns-in_err-counted
+so_many-returns-in_err-counted t c =
+    let r = c.from_residual-in_err-counted in
+    no_mark c.args.levels c.args.others (remaining c.args.parser.now) c.each.expressions.items c.each.left (remaining c.each.parser) c.each.invariant
+    (remaining c.expression.new.parser) (remaining c.counted.new.parser) c.in_ok-next.next c.in_ok-next.ensures expressions_of r.result _ r.ensures.1 c.in_err-counted.ensures.behind
+
+pub so_many-returns-then-left-eq0 : goal.so_many-returns-then-left-eq0
+so_many-returns-then-left-eq0 t c =
+    many_end c.args.levels c.args.others (remaining c.args.parser.now) c.each.expressions.items c.each.left (remaining c.each.parser) c.each.invariant
+    (remaining c.expression.new.parser) (remaining c.counted.new.parser) c.in_ok-next.next c.in_ok-next.ensures c.in_ok-counted.ensures.behind
+    c.counted.new.expressions.items c.in_ok-counted.ensures.added c.if-left-eq0.true
+
+pub so_many-each-preserved : goal.so_many-each-preserved
+so_many-each-preserved t c =
+    many_go_on c.args.levels c.args.others (remaining c.args.parser.now) c.each.expressions.items c.each.left (remaining c.each.parser) c.each.invariant
+    (remaining c.expression.new.parser) (remaining c.counted.new.parser) c.in_ok-next.next c.in_ok-next.ensures c.in_ok-counted.ensures.behind
+    c.counted.new.expressions.items c.in_ok-counted.ensures.added c.if-left-eq0.false
+
 -- where a part is refused
 pub boxed-returns-in_err-part : goal.boxed-returns-in_err-part
 boxed-returns-in_err-part t c =
@@ -132,6 +157,21 @@ operation-returns-in_ok-first-in-Binary t c =
     let reads = read_expression c.args.levels in
     operation_is reads c.args.at (parsing.unary_of c.args.keyword) (parsing.binary_of c.args.keyword) (remaining c.args.parser.now)
     ∙ rw (c.in_ok-operator.ensures, c.in-Binary.is, c.in_ok-first-in-Binary.ensures, binary_tree) refl
+
+pub operate-returns-in_err-operator : goal.operate-returns-in_err-operator
+operate-returns-in_err-operator t c =
+    let reads = read_expression c.args.levels in
+    let r = c.from_residual in
+    seen_as expression_of r.result (remaining c.array_operator.new.parser) (operate_is reads c.args.at c.args.keyword (remaining c.args.parser.now))
+    (refused_part array_of expression_of _ _ _ (remaining c.array_operator.new.parser) r.result r.ensures.1 c.in_err-operator.ensures)
+
+pub operate-returns-in_err-operands : goal.operate-returns-in_err-operands
+operate-returns-in_err-operands t c =
+    let reads = read_expression c.args.levels in
+    let r = c.from_residual-in_err-operands in
+    seen_as expression_of r.result (remaining c.so_many.new.parser) (operate_is reads c.args.at c.args.keyword (remaining c.args.parser.now))
+    (rw (c.in_ok-operator.ensures, sym c.others_of.ensures)
+    (refused_part expressions_of expression_of _ _ _ (remaining c.so_many.new.parser) r.result r.ensures.1 c.in_err-operands.ensures))
 
 pub let_in-returns-in_err-name : goal.let_in-returns-in_err-name
 let_in-returns-in_err-name t c =
@@ -293,6 +333,12 @@ operation-returns-in_ok-operand-in-Unary t c =
     operation_is reads c.args.at (parsing.unary_of c.args.keyword) (parsing.binary_of c.args.keyword) (remaining c.args.parser.now)
     ∙ rw (c.in_ok-operator.ensures, c.in-Unary.is, c.in_ok-operand-in-Unary.ensures, unary_tree) refl
 
+pub operate-returns : goal.operate-returns
+operate-returns t c =
+    let reads = read_expression c.args.levels in
+    operate_is reads c.args.at c.args.keyword (remaining c.args.parser.now)
+    ∙ rw (c.in_ok-operator.ensures, sym c.others_of.ensures, c.in_ok-operands.ensures, operate_tree) refl
+
 pub let_in-returns : goal.let_in-returns
 let_in-returns t c =
     let reads = read_expression c.args.levels in
@@ -338,6 +384,15 @@ word-conditional-requires t c = omega (arith, c.decreases)
 
 pub word-matching-requires : goal.word-matching-requires
 word-matching-requires t c = omega (arith, c.decreases)
+
+pub word-operate-requires : goal.word-operate-requires
+word-operate-requires t c = omega (arith, c.decreases)
+
+pub operate-so_many-requires : goal.operate-so_many-requires
+operate-so_many-requires t c = omega (arith, c.decreases)
+
+pub so_many-expression-requires : goal.so_many-expression-requires
+so_many-expression-requires t c = omega (arith, c.decreases)
 
 pub word-operation-requires : goal.word-operation-requires
 word-operation-requires t c = omega (arith, c.decreases)

@@ -6,6 +6,7 @@ use Rattle.auth_syntax.specs.Arms.{read_arm}
 use Rattle.auth_syntax.specs.Trees.{expression_of, arm_of}
 use Rattle.lexemes.specs.Remaining.{remaining}
 use Rattle.auth_syntax.proofs.Loops.{IsReadSoFar}
+use Rattle.auth_syntax.proofs.ManyTurns.{AreManySoFar}
 use Rattle.auth_syntax.proofs.parser.expressions.+expressions.Given as goal
 
 abbrev pub decreases-expression : goal.decreases-expression
@@ -35,6 +36,12 @@ decreases-word l = 6 * l.levels + 4
 abbrev pub decreases-operation : goal.decreases-operation
 decreases-operation l = 6 * l.levels + 3
 
+abbrev pub decreases-operate : goal.decreases-operate
+decreases-operate l = 6 * l.levels + 2
+
+abbrev pub decreases-so_many : goal.decreases-so_many
+decreases-so_many l = 6 * l.levels + 1
+
 abbrev pub decreases-let_in : goal.decreases-let_in
 decreases-let_in l = 6 * l.levels + 2
 
@@ -55,6 +62,12 @@ invariant-expression_list-each l = IsReadSoFar read_separator (read_expression l
 
 abbrev pub decreases-expression_list-each : goal.decreases-expression_list-each
 decreases-expression_list-each l = count (remaining l.parser)
+
+abbrev pub invariant-so_many-each : goal.invariant-so_many-each
+invariant-so_many-each l = AreManySoFar l.levels l.others (remaining l.fn.parser) (map expression_of l.expressions.items) l.left (remaining l.parser)
+
+abbrev pub decreases-so_many-each : goal.decreases-so_many-each
+decreases-so_many-each l = l.left
 
 abbrev pub invariant-arm_list-each : goal.invariant-arm_list-each
 invariant-arm_list-each l = IsReadSoFar read_arm_separator (read_arm (read_expression l.levels)) (remaining l.fn.parser) (map arm_of l.arms.items) (remaining l.parser)

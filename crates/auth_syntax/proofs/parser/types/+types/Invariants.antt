@@ -10,6 +10,9 @@ decreases-type_from l = 4 * l.levels + 3
 abbrev pub decreases-auth_type : goal.decreases-auth_type
 decreases-auth_type l = 4 * l.levels + 2
 
+abbrev pub decreases-array_type : goal.decreases-array_type
+decreases-array_type l = 4 * l.levels + 2
+
 abbrev pub decreases-pair_type : goal.decreases-pair_type
 decreases-pair_type l = 4 * l.levels + 2
 
