@@ -11,7 +11,9 @@ pub mod Composites
 mod PrintedTokens
 mod BeginAnywhere
 mod TokensOfTexts
+mod TokensOfBothFormats
 mod PrintedLines
+mod PrintedFormats
 mod MovedTrees
 mod PartsWithoutPlaces
 mod PrintedProgramsRead

@@ -5,7 +5,7 @@ use Rattle.std.specs.Prelude.{◌==◌}
 use Rattle.lexemes.specs.declared.token.Mark.{Mark}
 use Rattle.lexemes.specs.declared.token.Mark.TheVariants.{LeftParenthesis, RightParenthesis}
 use Rattle.printed_syntax.specs.declared.printer.TokenKind.{TokenKind}
-use Rattle.printed_syntax.specs.declared.printer.TokenKind.TheVariants.{Opening, Closing, Applied, Other}
+use Rattle.printed_syntax.specs.declared.printer.TokenKind.TheVariants.{Opening, Bracket, Closing, Applied, Other}
 use Rattle.lexemes.specs.Tokens.{Token, MarkToken}
 use Rattle.auth_syntax.specs.Grammar.{Written, mark, in_parentheses}
 use Rattle.printed_syntax.specs.PrintedPrograms.{token_text, is_opening, is_closing, is_applied, are_apart, blank_before, in_line}
@@ -18,25 +18,28 @@ with_tokens_append line (w ∷ ws) vs = with_tokens_append (with_token line w.to
 
 -- tokens are apart where their kinds are
 abbrev kind_by : Bool → Bool → Bool → TokenKind
-kind_by opening closing applied = if opening then Opening else if closing then Closing else if applied then Applied else Other
+kind_by opening closing applied =
+    if opening then (if closing then Bracket else Opening) else if closing then Closing else if applied then Applied else Other
 
-apart_is : (o c a o' c' a' : Bool) → (c && a) ≡ false → (o' && c') ≡ false
-    → kinds_apart (kind_by o c a) (kind_by o' c' a') ≡ not (o || c' || (a && o'))
-apart_is o true true o' c' a' e f = absurd (cc)
-apart_is o c a true true a' e f = absurd (cc)
-apart_is true c a o' c' a' e f = refl
-apart_is false true false true false a' e f = refl
-apart_is false true false false true a' e f = refl
-apart_is false true false false false true e f = refl
-apart_is false true false false false false e f = refl
-apart_is false false true true false a' e f = refl
-apart_is false false true false true a' e f = refl
-apart_is false false true false false true e f = refl
-apart_is false false true false false false e f = refl
-apart_is false false false true false a' e f = refl
-apart_is false false false false true a' e f = refl
-apart_is false false false false false true e f = refl
-apart_is false false false false false false e f = refl
+apart_is : (o c a o' c' a' : Bool) → (c && a) ≡ false → kinds_apart (kind_by o c a) (kind_by o' c' a') ≡ not (o || c' || (a && o'))
+apart_is o true true o' c' a' e = absurd (cc)
+apart_is true true false o' c' a' e = refl
+apart_is true false a o' c' a' e = refl
+apart_is false true false true true a' e = refl
+apart_is false true false true false a' e = refl
+apart_is false true false false true a' e = refl
+apart_is false true false false false true e = refl
+apart_is false true false false false false e = refl
+apart_is false false true true true a' e = refl
+apart_is false false true true false a' e = refl
+apart_is false false true false true a' e = refl
+apart_is false false true false false true e = refl
+apart_is false false true false false false e = refl
+apart_is false false false true true a' e = refl
+apart_is false false false true false a' e = refl
+apart_is false false false false true a' e = refl
+apart_is false false false false false true e = refl
+apart_is false false false false false false e = refl
 
 closing_not_applied : (token : Token) → (is_closing token && is_applied token) ≡ false
 closing_not_applied (MarkToken mark) = neither (is_closing (MarkToken mark)) where
@@ -45,15 +48,10 @@ closing_not_applied (MarkToken mark) = neither (is_closing (MarkToken mark)) whe
   neither false = refl
 closing_not_applied token = refl
 
-opening_not_closing : (token : Token) → (is_opening token && is_closing token) ≡ false
-opening_not_closing (MarkToken LeftParenthesis) = refl
-opening_not_closing (MarkToken mark) = refl
-opening_not_closing token = refl
-
 kinds_apart-is : (last next : Token) → kinds_apart (kind_of_token last) (kind_of_token next) ≡ are_apart last next
 kinds_apart-is last next =
     apart_is (is_opening last) (is_closing last) (is_applied last) (is_opening next) (is_closing next) (is_applied next)
-    (closing_not_applied last) (opening_not_closing next)
+    (closing_not_applied last)
 
 -- so a line is that of its tokens
 abbrev kind_behind : Option Token → TokenKind

@@ -1,11 +1,16 @@
 -- The text of a literal as a whole: the literal, the end of the text behind it, and the spelling.
-use Rattle.std.proofs.Common.{◌≡◌, ◌∙◌, ℕ, true, false, List, [], length, nat_le, refl, ap, ap₂, sym, Result, Ok, Err, Vec, Global, cond}
+use Rattle.std.proofs.Common.{◌≡◌, ◌∙◌, ℕ, true, false, List, [], length, nat_le, refl, ap, ap₂, sym, Result, Ok, Err, Vec, Global, cond, if◌then◌else◌}
 use Rattle.core_terms.specs.declared.byte_string.ByteString.{ByteString as Spelling}
 use Rattle.core_terms.specs.Types.{Ty}
 use Rattle.core_terms.specs.Values.{Value, size}
 use Rattle.core_terms.specs.Spelling.{spelling}
 use Rattle.core_terms.specs.Terms.{Program}
 use Rattle.core_terms.specs.Formats.{depth_limit}
+use Rattle.core_terms.specs.ProgramFormats.{arrays_of}
+use Rattle.core_terms.specs.Programs.{meaning}
+use Rattle.core_terms.specs.declared.program.Program.{Program as ProgramCode}
+use Rattle.core_terms.specs.declared.format.Format.{Format}
+use Rattle.core_terms.specs.declared.format.Format.TheVariants.{First, Second}
 use Rattle.core_terms.proofs.Spelled.{length_spelling}
 use Rattle.lexemes.specs.declared.place.Place.{Place}
 use Rattle.lexemes.specs.declared.fault.SyntaxKind.{SyntaxKind}
@@ -19,7 +24,7 @@ use Rattle.lexemes.specs.Readings as syntax
 use Rattle.lexemes.specs.Readings.{Reading, Found}
 use Rattle.lexemes.specs.Remaining.{Reads}
 use Rattle.lexemes.specs.Remaining.{read_end}
-use Rattle.printed_syntax.specs.Literals.{ConstructorNames, LiteralReading, Means, literal_of, Literal, IsValue, FirstFault, at_end, whole_literal, value_within, literal_in}
+use Rattle.printed_syntax.specs.Literals.{ConstructorNames, LiteralReading, Means, literal_of, Literal, IsValue, FirstFault, at_end, whole_literal, value_within, literal_in, written_in}
 use Rattle.printed_syntax.specs.LiteralAnswers.{ReadsLiteral}
 use Rattle.printed_syntax.specs.LiteralSteps.{IsWithinLimit, ReadsPart, ReadsWhole, literal_kind, spelled, told_of_literal}
 use Rattle.printed_syntax.proofs.LiteralSpellings.{spelled_found, spelled_fault}
@@ -41,7 +46,15 @@ end_not_found (End end) kind at e found = absurd (cc)
 end_not_found (Next next token rest) kind at e found = ap as_fault e
 end_not_found (Faulty next lexical) kind at e found = ap as_fault e
 
-module _ (P : Program) (names : ConstructorNames) (t : Ty) (text : List ℕ) (read : Tokens) (same : read ≡ tokens text) where
+-- the tokens of a program's literals are those of the code's format
+with_arrays : (format : Format) → (if arrays_of format then Second else First) ≡ format
+with_arrays First = refl
+with_arrays Second = refl
+
+pub written_is : (program : ProgramCode) → written_in (meaning program).format ≡ program.types.table.format
+written_is program = with_arrays program.types.table.format
+
+module _ (P : Program) (names : ConstructorNames) (t : Ty) (text : List ℕ) (read : Tokens) (same : read ≡ tokens (written_in P.format) text) where
   -- the literal that these tokens begin with
   abbrev pub begun : LiteralReading Value
   begun = literal_of P.types names depth_limit t read
@@ -56,7 +69,7 @@ module _ (P : Program) (names : ConstructorNames) (t : Ty) (text : List ℕ) (re
   whole-read bytes rest after h e =
       let f = spelled_found [] bytes.items begun rest h in
       let v = f.0 in
-      let shallow = literal_is_shallow P.types names t text v rest (ap (literal_of P.types names depth_limit t) (sym same) ∙ f.1) in
+      let shallow = literal_is_shallow (written_in P.format) P.types names t text v rest (ap (literal_of P.types names depth_limit t) (sym same) ∙ f.1) in
       (v, as_a_whole (Means v rest) f.1 ∙ end_found rest after e (value_within P.format.limit P.types t v), f.2, sym (length_spelling P.types t v shallow) ∙ ap length f.2)
 
   -- a fault in the literal, and one behind it

@@ -1,13 +1,8 @@
 -- The spelling of what is read of a literal, from part to part.
-use Rattle.std.proofs.Common.{◌≡◌, ◌≢◌, ◌⊎◌, inl, inr, ℕ, zero, suc, ◌-◌, ◌∙◌, List, [], ◌∷◌, ◌++◌, Some, None, Result, Ok, Err, bytes_eq, option_map, if◌then◌else◌, refl, ap, ap₂, sym, subst, arith, append_assoc, append-nil}
+use Rattle.std.proofs.Common.{◌≡◌, ◌≢◌, ℕ, zero, suc, ◌+◌, ◌-◌, ◌<◌, ◌∙◌, List, [], ◌∷◌, ◌++◌, Some, None, Result, Ok, Err, bytes_eq, option_map, if◌then◌else◌, refl, ap, ap₂, sym, subst, arith, append_assoc, append-nil}
 use Rattle.std.specs.List.{position}
-use Rattle.core_terms.specs.Types.{Ty, AuthTy, VecTy, Table, fields_at}
-use Rattle.core_terms.specs.TypeTables.{type_at, type_of_form}
-use Rattle.core_terms.specs.Programs.{types_of}
-use Rattle.core_terms.specs.declared.types.TyForm.{TyForm}
-use Rattle.core_terms.specs.declared.types.TyForm.TheVariants.{AuthForm, VecForm}
-use Rattle.core_terms.specs.declared.types.TyId.{TyId}
-use Rattle.core_terms.specs.Values.{Value, UnitV, ConV, Values, AndV}
+use Rattle.core_terms.specs.Types.{Ty, Table, fields_at, item_types}
+use Rattle.core_terms.specs.Values.{Value, UnitV, ConV, ItemsV, Values, AndV}
 use Rattle.core_terms.specs.Spelling.{spelling, spellings}
 use Rattle.core_terms.specs.declared.program.Program.{Program}
 use Rattle.core_terms.proofs.Places.{first_place}
@@ -16,10 +11,11 @@ use Rattle.core_terms.specs.declared.fault.Fault.TheVariants.{At, NoMemory}
 use Rattle.printed_syntax.specs.declared.fault.LiteralKind.{LiteralKind}
 use Rattle.printed_syntax.specs.declared.fault.LiteralKind.TheVariants.{Mismatch}
 use Rattle.lexemes.specs.declared.place.Place.{Place}
-use Rattle.lexemes.specs.declared.token.Mark.TheVariants.{LeftParenthesis, RightParenthesis, Comma}
+use Rattle.lexemes.specs.declared.token.Mark.{Mark}
+use Rattle.lexemes.specs.declared.token.Mark.TheVariants.{LeftParenthesis, RightParenthesis, Comma, LeftBracket, RightBracket}
 use Rattle.lexemes.specs.Tokens.{UpperToken, Tokens, Next}
-use Rattle.printed_syntax.specs.Literals.{ConstructorNames, LiteralReading, Means, FaultAt, then_means, behind_mark, pair_literal, more_fields, fields_literal, number_of_name, constructor_with, constructor_named, constructor_literal, mismatch, too_deep}
-use Rattle.printed_syntax.specs.LiteralSteps.{ReadsPart, literal_on, spelled}
+use Rattle.printed_syntax.specs.Literals.{ConstructorNames, LiteralReading, Means, FaultAt, then_means, behind_mark, pair_literal, more_values, values_up_to, fields_literal, array_literal, number_of_name, constructor_with, constructor_named, constructor_literal, too_deep}
+use Rattle.printed_syntax.specs.LiteralSteps.{ReadsPart, behind_comma, values_from, literal_on, spelled}
 
 -- where each value that may be read goes on as here, so does what is read, spelled
 spelled_then : {A B : Type 0} (spell : A → List ℕ) (all : B → List ℕ) (before bytes : List ℕ) (reading : LiteralReading A) (go : A → Tokens → LiteralReading B)
@@ -65,68 +61,84 @@ number_position [] name = refl
 number_position (other ∷ others) name =
     first_place (λ other. bytes_eq other name) other others ∙ ap (λ place. if bytes_eq other name then Some 0 else option_map suc place) (number_position others name)
 
-module _ (one : Ty → Tokens → LiteralReading Value) where
+-- values in a row, up to the mark that ends them
+module _ (ending : Mark) (one : Ty → Tokens → LiteralReading Value) where
   abbrev next_spelling : Ty → List Ty → List ℕ → Tokens → LiteralReading (List ℕ)
   next_spelling t ts before tokens =
-      then_means (spelled spelling before (one t tokens)) (λ bytes tokens. spelled spellings bytes (more_fields one ts tokens))
+      then_means (spelled spelling before (one t tokens)) (λ bytes tokens. spelled spellings bytes (more_values ending one ts tokens))
 
   next_spelled : (t : Ty) (ts : List Ty) (before : List ℕ) (tokens : Tokens)
-      → spelled spellings before (then_means (one t tokens) (λ v tokens. then_means (more_fields one ts tokens) (λ vs tokens. Means (AndV v vs) tokens)))
-      ≡ next_spelling t ts before tokens
-  next_spelled t ts before tokens = spelled_then spelling spellings before before (one t tokens) _ _ (λ v tokens. and_spelled before v (more_fields one ts tokens))
+      → spelled spellings before (values_up_to ending one (t ∷ ts) tokens) ≡ next_spelling t ts before tokens
+  next_spelled t ts before tokens = spelled_then spelling spellings before before (one t tokens) _ _ (λ v tokens. and_spelled before v (more_values ending one ts tokens))
 
-  fields_spelled : (t : Ty) (ts : List Ty) (before : List ℕ) (tokens : Tokens)
-      → spelled spellings before (fields_literal one (t ∷ ts) tokens) ≡ then_means (behind_mark LeftParenthesis tokens) (λ _ tokens. next_spelling t ts before tokens)
-  fields_spelled t ts before tokens = spelled_mark spellings before (behind_mark LeftParenthesis tokens) _ _ (λ _ tokens. next_spelled t ts before tokens)
+  from_spelled : (i : ℕ) (t : Ty) (ts : List Ty) (before : List ℕ) (tokens : Tokens)
+      → spelled spellings before (values_from i ending one (t ∷ ts) tokens) ≡ then_means (behind_comma i tokens) (λ _ tokens. next_spelling t ts before tokens)
+  from_spelled zero t ts before tokens = next_spelled t ts before tokens
+  from_spelled (suc i) t ts before tokens = spelled_mark spellings before (behind_mark Comma tokens) _ _ (λ _ tokens. next_spelled t ts before tokens)
 
-  more_spelled : (t : Ty) (ts : List Ty) (before : List ℕ) (tokens : Tokens)
-      → spelled spellings before (more_fields one (t ∷ ts) tokens) ≡ then_means (behind_mark Comma tokens) (λ _ tokens. next_spelling t ts before tokens)
-  more_spelled t ts before tokens = spelled_mark spellings before (behind_mark Comma tokens) _ _ (λ _ tokens. next_spelled t ts before tokens)
+  last_spelled : (i : ℕ) (before : List ℕ) (tokens : Tokens)
+      → spelled spellings before (values_from i ending one [] tokens) ≡ then_means (behind_mark ending tokens) (λ _ tokens. Means before tokens)
+  last_spelled zero before tokens =
+      spelled_mark spellings before (behind_mark ending tokens) _ _ (λ _ tokens. ap (λ bytes. Means bytes tokens) (append-nil before))
+  last_spelled (suc i) before tokens =
+      spelled_mark spellings before (behind_mark ending tokens) _ _ (λ _ tokens. ap (λ bytes. Means bytes tokens) (append-nil before))
 
-  last_spelled : (before : List ℕ) (tokens : Tokens)
-      → spelled spellings before (more_fields one [] tokens) ≡ then_means (behind_mark RightParenthesis tokens) (λ _ tokens. Means before tokens)
-  last_spelled before tokens =
-      spelled_mark spellings before (behind_mark RightParenthesis tokens) _ _ (λ _ tokens. ap (λ bytes. Means bytes tokens) (append-nil before))
+  -- the first of them, behind what stands before it
+  pub value_read : (i : ℕ) (t : Ty) (ts : List Ty) (before bytes : List ℕ) (tokens behind rest : Tokens) → behind_comma i tokens ≡ Means tt behind
+      → spelled spelling before (one t behind) ≡ Means bytes rest
+      → spelled spellings before (values_from i ending one (t ∷ ts) tokens) ≡ spelled spellings bytes (more_values ending one ts rest)
+  value_read i t ts before bytes tokens behind rest h e =
+      from_spelled i t ts before tokens
+      ∙ ap (λ reading. then_means reading (λ _ tokens. next_spelling t ts before tokens)) h
+      ∙ ap (λ reading. then_means reading (λ bytes tokens. spelled spellings bytes (more_values ending one ts tokens))) e
 
+  -- a fault at what stands before it, and one in it
+  pub no_comma : (i : ℕ) (t : Ty) (ts : List Ty) (before after : List ℕ) (tokens rest : Tokens) (fault : SyntaxFault)
+      → ReadsPart (λ (_ : Unit {0}). tt) (behind_comma i tokens) (Err fault) rest
+      → ReadsPart (λ (_ : Unit {0}). after) (spelled spellings before (values_from i ending one (t ∷ ts) tokens)) (Err fault) rest
+  no_comma i t ts before after tokens rest (At kind at) h =
+      from_spelled i t ts before tokens ∙ ap (λ reading. then_means reading (λ _ tokens. next_spelling t ts before tokens)) h
+  no_comma i t ts before after tokens rest NoMemory h = tt
+
+  pub no_value : (i : ℕ) (t : Ty) (ts : List Ty) (before after : List ℕ) (tokens behind rest : Tokens) (fault : SyntaxFault) → behind_comma i tokens ≡ Means tt behind
+      → ReadsPart (λ (_ : Unit {0}). after) (spelled spelling before (one t behind)) (Err fault) rest
+      → ReadsPart (λ (_ : Unit {0}). after) (spelled spellings before (values_from i ending one (t ∷ ts) tokens)) (Err fault) rest
+  no_value i t ts before after tokens behind rest (At kind at) h e =
+      from_spelled i t ts before tokens
+      ∙ ap (λ reading. then_means reading (λ _ tokens. next_spelling t ts before tokens)) h
+      ∙ ap (λ reading. then_means reading (λ bytes tokens. spelled spellings bytes (more_values ending one ts tokens))) e
+  no_value i t ts before after tokens behind rest NoMemory h e = tt
+
+  -- the mark that ends them
+  pub last_read : (i : ℕ) (before : List ℕ) (tokens rest : Tokens) (result : Result (Unit {0}) SyntaxFault) → ReadsPart (λ (_ : Unit {0}). tt) (behind_mark ending tokens) result rest
+      → ReadsPart (λ (_ : Unit {0}). before) (spelled spellings before (values_from i ending one [] tokens)) result rest
+  last_read i before tokens rest (Ok u) h = last_spelled i before tokens ∙ ap (λ reading. then_means reading (λ _ tokens. Means before tokens)) h
+  last_read i before tokens rest (Err (At kind at)) h = last_spelled i before tokens ∙ ap (λ reading. then_means reading (λ _ tokens. Means before tokens)) h
+  last_read i before tokens rest (Err NoMemory) h = tt
+
+module _ (one : Ty → Tokens → LiteralReading Value) where
+  -- fields, of which the first stands behind a parenthesis
   pub none_spelled : (before : List ℕ) (tokens : Tokens) → spelled spellings before (fields_literal one [] tokens) ≡ Means before tokens
   none_spelled before tokens = ap (λ bytes. Means bytes tokens) (append-nil before)
 
-  -- a field, behind its mark
   pub fields_read : (t : Ty) (ts : List Ty) (before bytes : List ℕ) (tokens behind rest : Tokens) → behind_mark LeftParenthesis tokens ≡ Means tt behind
-      → spelled spelling before (one t behind) ≡ Means bytes rest → spelled spellings before (fields_literal one (t ∷ ts) tokens) ≡ spelled spellings bytes (more_fields one ts rest)
+      → spelled spelling before (one t behind) ≡ Means bytes rest
+      → spelled spellings before (fields_literal one (t ∷ ts) tokens) ≡ spelled spellings bytes (more_values RightParenthesis one ts rest)
   fields_read t ts before bytes tokens behind rest h e =
-      fields_spelled t ts before tokens
-      ∙ ap (λ reading. then_means reading (λ _ tokens. next_spelling t ts before tokens)) h
-      ∙ ap (λ reading. then_means reading (λ bytes tokens. spelled spellings bytes (more_fields one ts tokens))) e
+      ap (λ reading. spelled spellings before (then_means reading (λ _ tokens. values_up_to RightParenthesis one (t ∷ ts) tokens))) h
+      ∙ value_read RightParenthesis one zero t ts before bytes behind behind rest refl e
 
-  pub more_read : (t : Ty) (ts : List Ty) (before bytes : List ℕ) (tokens behind rest : Tokens) → behind_mark Comma tokens ≡ Means tt behind
-      → spelled spelling before (one t behind) ≡ Means bytes rest → spelled spellings before (more_fields one (t ∷ ts) tokens) ≡ spelled spellings bytes (more_fields one ts rest)
-  more_read t ts before bytes tokens behind rest h e =
-      more_spelled t ts before tokens
-      ∙ ap (λ reading. then_means reading (λ _ tokens. next_spelling t ts before tokens)) h
-      ∙ ap (λ reading. then_means reading (λ bytes tokens. spelled spellings bytes (more_fields one ts tokens))) e
+  -- the elements of an array, which are spelled as they are
+  elements_spelled : (before : List ℕ) (reading : LiteralReading Values)
+      → spelled spelling before (then_means reading (λ vs tokens. Means (ItemsV vs) tokens)) ≡ spelled spellings before reading
+  elements_spelled before (Means vs rest) = refl
+  elements_spelled before (FaultAt kind offset) = refl
 
-  -- a fault at the mark, and one in the field
-  pub no_comma : (t : Ty) (ts : List Ty) (before after : List ℕ) (tokens rest : Tokens) (fault : SyntaxFault) → ReadsPart (λ (_ : Unit {0}). tt) (behind_mark Comma tokens) (Err fault) rest
-      → ReadsPart (λ (_ : Unit {0}). after) (spelled spellings before (more_fields one (t ∷ ts) tokens)) (Err fault) rest
-  no_comma t ts before after tokens rest (At kind at) h = more_spelled t ts before tokens ∙ ap (λ reading. then_means reading (λ _ tokens. next_spelling t ts before tokens)) h
-  no_comma t ts before after tokens rest NoMemory h = tt
-
-  pub no_field : (t : Ty) (ts : List Ty) (before after : List ℕ) (tokens behind rest : Tokens) (fault : SyntaxFault) → behind_mark Comma tokens ≡ Means tt behind
-      → ReadsPart (λ (_ : Unit {0}). after) (spelled spelling before (one t behind)) (Err fault) rest
-      → ReadsPart (λ (_ : Unit {0}). after) (spelled spellings before (more_fields one (t ∷ ts) tokens)) (Err fault) rest
-  no_field t ts before after tokens behind rest (At kind at) h e =
-      more_spelled t ts before tokens
-      ∙ ap (λ reading. then_means reading (λ _ tokens. next_spelling t ts before tokens)) h
-      ∙ ap (λ reading. then_means reading (λ bytes tokens. spelled spellings bytes (more_fields one ts tokens))) e
-  no_field t ts before after tokens behind rest NoMemory h e = tt
-
-  -- the parenthesis that ends the fields
-  pub last_read : (before : List ℕ) (tokens rest : Tokens) (result : Result (Unit {0}) SyntaxFault) → ReadsPart (λ (_ : Unit {0}). tt) (behind_mark RightParenthesis tokens) result rest
-      → ReadsPart (λ (_ : Unit {0}). before) (spelled spellings before (more_fields one [] tokens)) result rest
-  last_read before tokens rest (Ok u) h = last_spelled before tokens ∙ ap (λ reading. then_means reading (λ _ tokens. Means before tokens)) h
-  last_read before tokens rest (Err (At kind at)) h = last_spelled before tokens ∙ ap (λ reading. then_means reading (λ _ tokens. Means before tokens)) h
-  last_read before tokens rest (Err NoMemory) h = tt
+  pub array_begun : (n : ℕ) (t : Ty) (before : List ℕ) (tokens behind : Tokens) → behind_mark LeftBracket tokens ≡ Means tt behind
+      → spelled spelling before (array_literal one n t tokens) ≡ spelled spellings before (values_from zero RightBracket one (item_types n t) behind)
+  array_begun n t before tokens behind h =
+      ap (λ reading. spelled spelling before (then_means reading (λ _ tokens. then_means (values_up_to RightBracket one (item_types n t) tokens) (λ vs tokens. Means (ItemsV vs) tokens)))) h
+      ∙ elements_spelled before (values_up_to RightBracket one (item_types n t) behind)
 
   tag_spelled : (before : List ℕ) (tag : ℕ) (reading : LiteralReading Values)
       → spelled spelling before (then_means reading (λ vs tokens. Means (ConV tag vs) tokens)) ≡ spelled spellings (before ++ tag ∷ []) reading
@@ -155,6 +167,13 @@ unit_spelled before reading (Ok u) rest e = ap (spelled spelling before) e ∙ a
 unit_spelled before reading (Err (At kind at)) rest e = ap (spelled spelling before) e
 unit_spelled before reading (Err NoMemory) rest e = tt
 
+-- of so many elements one is left, and others
+pub one_left : (n i : ℕ) (t : Ty) → i < n → item_types (n - i) t ≡ t ∷ item_types (n - (i + 1)) t
+one_left n i t h = ap (λ left. item_types left t) (one_less n i h)
+  where
+    one_less : (n i : ℕ) → i < n → n - i ≡ suc (n - (i + 1))
+    one_less n i h = omega arith
+
 -- a level that is there has others from there on, one less
 level_is : (levels : ℕ) → levels ≢ 0 → levels ≡ suc (levels - 1)
 level_is zero some = absurd (some refl)
@@ -167,14 +186,6 @@ level_is (suc n) some = ap suc (less_one n)
 pub at_level : (program : Program) (levels : ℕ) (t u : Ty) (tokens : Tokens) → levels ≢ 0 → u ≡ t
     → literal_on program (suc (levels - 1)) u tokens ≡ literal_on program levels t tokens
 at_level program levels t u tokens some same = ap₂ (λ n t. literal_on program n t tokens) (sym (level_is levels some)) same
-
--- the same at a type whose values have no literals
-pub at_no_literal : (program : Program) (levels : ℕ) (t : Ty) (form : TyForm) (tokens : Tokens) → levels ≢ 0 → type_of_form (types_of program) form ≡ t
-    → ((inner : TyId) × (form ≡ AuthForm inner)) ⊎ ((n : ℕ) × (item : TyId) × (form ≡ VecForm n item)) → mismatch tokens ≡ literal_on program levels t tokens
-at_no_literal program levels t form tokens some of_form (inl (inner, is)) =
-    at_level program levels t (AuthTy (type_at (types_of program) inner)) tokens some (ap (type_of_form (types_of program)) (sym is) ∙ of_form)
-at_no_literal program levels t form tokens some of_form (inr (n, item, is)) =
-    at_level program levels t (VecTy n (type_at (types_of program) item)) tokens some (ap (type_of_form (types_of program)) (sym is) ∙ of_form)
 
 -- with no level left a value is refused
 pub on_no_level : (program : Program) (t : Ty) (before : List ℕ) (tokens rest : Tokens) (result : Result (Unit {0}) SyntaxFault) (levels : ℕ) → levels ≡ 0

@@ -11,12 +11,12 @@ use Rattle.lexemes.specs.Tokens.{KeywordToken, UpperToken, IntToken, TextToken, 
 use Rattle.lexemes.specs.declared.place.Place.{Place}
 use Rattle.lexemes.specs.declared.token.Keyword.{Keyword}
 use Rattle.lexemes.specs.declared.token.Keyword.TheVariants.{True as TrueWord, False as FalseWord}
-use Rattle.printed_syntax.specs.Literals.{ConstructorNames, LiteralReading, Means, FaultAt, then_means, mismatch, too_deep, unit_literal, bool_literal, int_literal, text_literal, pair_literal, number_of_name, constructor_with, constructor_named, constructor_literal, literal_of, Literal, IsValue, FirstFault, at_end, value_within, whole_literal}
+use Rattle.printed_syntax.specs.Literals.{ConstructorNames, LiteralReading, Means, FaultAt, then_means, mismatch, too_deep, unit_literal, bool_literal, int_literal, text_literal, pair_literal, array_literal, number_of_name, constructor_with, constructor_named, constructor_literal, literal_of, Literal, IsValue, FirstFault, at_end, value_within, whole_literal, written_in}
 use Rattle.printed_syntax.specs.LiteralLaws.{LiteralsAreByTheirTokens}
-use Rattle.printed_syntax.specs.LiteralRules.{IsUnfit, IsTooDeep, unit_parts, pair_parts, field_parts, ArePartsAt, OnePartBreaks, IsFirstName, IsConstructorAt, IsLiteral, BreaksLiteral, IsWholeLiteral, BreaksWholeLiteral}
+use Rattle.printed_syntax.specs.LiteralRules.{IsUnfit, IsTooDeep, unit_parts, pair_parts, field_parts, array_parts, ArePartsAt, OnePartBreaks, IsFirstName, IsConstructorAt, IsLiteral, BreaksLiteral, IsWholeLiteral, BreaksWholeLiteral}
 use Rattle.printed_syntax.specs.declared.fault.LiteralKind.{LiteralKind}
 use Rattle.printed_syntax.specs.declared.fault.LiteralKind.TheVariants.{Mismatch, TooBig}
-use Rattle.printed_syntax.proofs.RuledReadings.{Judges, Ruled, judges_then, judges_more, then_value, then_fault, IsNone, head_ruled, row, fields, Makes, row_ruled}
+use Rattle.printed_syntax.proofs.RuledReadings.{Judges, Ruled, judges_then, judges_more, then_value, then_fault, IsNone, head_ruled, row, fields, elements, Makes, row_ruled}
 
 -- the first of some names that is this one
 names_first : (names : List (List ℕ)) (name : List ℕ) (place : ℕ) → IsFirstName names name place → number_of_name names name ≡ Some place
@@ -200,11 +200,6 @@ module _ (types : Table) (names : ConstructorNames) where
   none_authenticated levels t (End at) = (refl, refl)
   none_authenticated levels t (Faulty at kind) = (refl, refl)
 
-  no_array : (levels n : ℕ) (t : Ty) (before : Tokens) → Judges (Literally (suc levels) (VecTy n t) before) (IsUnfit before) (mismatch before)
-  no_array levels n t (Next at token rest) = (refl, refl)
-  no_array levels n t (End at) = (refl, refl)
-  no_array levels n t (Faulty at kind) = (refl, refl)
-
   -- types whose literals have parts, where the literals of the parts are by the rules
   module _ (levels : ℕ) (each : (t : Ty) (before : Tokens) → LiteralRuled levels t before (literal_of types names levels t before)) where
     abbrev one : Ty → Tokens → LiteralReading Value
@@ -277,6 +272,31 @@ module _ (types : Table) (names : ConstructorNames) where
         pair_passes (DigestV bytes) after h = absurd h
         pair_passes (ItemsV vs) after h = absurd h
 
+    array_ruled : (n : ℕ) (t : Ty) (before : Tokens) → LiteralRuled (suc levels) (VecTy n t) before (array_literal one n t before)
+    array_ruled n t before =
+        let r : Ruled (row one (array_parts n t) (λ vs tokens. Means (ItemsV vs) tokens) before) (Makes one Is Broken each (array_parts n t) (λ vs. ItemsV vs) before)
+        (OnePartBreaks Is Broken (array_parts n t) before)
+        = row_ruled one Is Broken each (array_parts n t) (λ vs. ItemsV vs) before in
+        subst (LiteralRuled (suc levels) (VecTy n t) before) (sym (elements one n t before)) (record {
+          judged = judges_more (Makes one Is Broken each (array_parts n t) (λ vs. ItemsV vs) before) (Literally (suc levels) (VecTy n t) before)
+              (OnePartBreaks Is Broken (array_parts n t) before) (BreaksLiteral types names (suc levels) (VecTy n t) before)
+              (row one (array_parts n t) (λ vs tokens. Means (ItemsV vs) tokens) before)
+              (λ w after (vs, made, there). subst (λ w. Literally (suc levels) (VecTy n t) before w after) made there) (λ kind offset f. f) r.judged;
+          passes = λ w after h. array_passes w after h;
+          tells = r.tells;
+        })
+      where
+        array_passes : (w : Value) (after : Tokens) → Literally (suc levels) (VecTy n t) before w after
+            → row one (array_parts n t) (λ vs tokens. Means (ItemsV vs) tokens) before ≡ Means w after
+        array_passes (ItemsV vs) after h = (row_ruled one Is Broken each (array_parts n t) (λ vs. ItemsV vs) before).passes (ItemsV vs) after (vs, refl, h)
+        array_passes UnitV after h = absurd h
+        array_passes (BoolV b) after h = absurd h
+        array_passes (IntV z) after h = absurd h
+        array_passes (TextV bytes) after h = absurd h
+        array_passes (PairV x y) after h = absurd h
+        array_passes (ConV tag vs) after h = absurd h
+        array_passes (DigestV bytes) after h = absurd h
+
     abbrev behind_head : Head → Tokens → LiteralReading Value
     behind_head h tokens = row one (field_parts h.of) (λ vs tokens. Means (ConV h.tag vs) tokens) tokens
 
@@ -336,8 +356,7 @@ module _ (types : Table) (names : ConstructorNames) where
   literal_ruled (suc levels) (NamedTy number) before = named_ruled levels (literal_ruled levels) number before
   literal_ruled (suc levels) (AuthTy t) before =
       head_ruled (Literally (suc levels) (AuthTy t) before) before (mismatch before) (λ v after h. absurd h) (none_authenticated levels t before)
-  literal_ruled (suc levels) (VecTy n t) before =
-      head_ruled (Literally (suc levels) (VecTy n t) before) before (mismatch before) (λ v after h. absurd h) (no_array levels n t before)
+  literal_ruled (suc levels) (VecTy n t) before = array_ruled levels (literal_ruled levels) n t before
 
 -- the whole of some tokens
 module _ (limit : ℕ) (types : Table) (names : ConstructorNames) (t : Ty) where
@@ -390,13 +409,14 @@ module _ (limit : ℕ) (types : Table) (names : ConstructorNames) (t : Ty) where
     answers = whole_judged tokens reads rule.judged
 
 pub literals_are_by_their_tokens : LiteralsAreByTheirTokens
-literals_are_by_their_tokens P names t text = (
-  λ v. (
-    λ is. subst (Answers P.format.limit P.types names t (tokens text)) is (answers P.format.limit P.types names t (tokens text)),
-    λ h. whole_passes P.format.limit P.types names t (tokens text) v h,
-  ),
-  λ kind offset. (
-    λ is. subst (Answers P.format.limit P.types names t (tokens text)) is (answers P.format.limit P.types names t (tokens text)),
-    λ h. whole_tells P.format.limit P.types names t (tokens text) kind offset h,
-  ),
-)
+literals_are_by_their_tokens P names t text =
+    let read = tokens (written_in P.format) text in (
+      λ v. (
+        λ is. subst (Answers P.format.limit P.types names t read) is (answers P.format.limit P.types names t read),
+        λ h. whole_passes P.format.limit P.types names t read v h,
+      ),
+      λ kind offset. (
+        λ is. subst (Answers P.format.limit P.types names t read) is (answers P.format.limit P.types names t read),
+        λ h. whole_tells P.format.limit P.types names t read kind offset h,
+      ),
+    )

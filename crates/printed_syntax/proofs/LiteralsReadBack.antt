@@ -1,22 +1,23 @@
 -- The value of a literal is one of its type, and is read back from its spelling.
 use Rattle.std.proofs.Common.{◌≡◌, ℕ, zero, suc, ◌+◌, ◌<◌, ◌≤◌, ◌^◌, Bool, true, false, List, [], ◌∷◌, Option, Some, None, unwrap_or, refl, sym, subst, arith, cond, leb-true}
 use Rattle.std.specs.Prelude.{nat_le}
-use Rattle.core_terms.specs.Types.{Ty, UnitTy, BoolTy, IntTy, TextTy, PairTy, NamedTy, AuthTy, VecTy, Table, fields_at, OnFields}
+use Rattle.core_terms.specs.Types.{Ty, UnitTy, BoolTy, IntTy, TextTy, PairTy, NamedTy, AuthTy, VecTy, Table, fields_at, item_types, OnFields}
 use Rattle.core_terms.specs.Formats.{depth_limit}
-use Rattle.core_terms.specs.Values.{Value, PairV, ConV, Values, NoV, AndV, IsIdeal, AreIdeal, IsShallow, AreShallow, size, depth, depths}
+use Rattle.core_terms.specs.Values.{Value, PairV, ConV, ItemsV, Values, NoV, AndV, IsIdeal, AreIdeal, IsShallow, AreShallow, size, depth, depths}
 use Rattle.core_terms.specs.Spelling.{spelling}
 use Rattle.core_terms.specs.Terms.{Program}
+use Rattle.core_terms.specs.declared.format.Format.{Format}
 use Rattle.core_terms.specs.Projection.{Fits}
 use Rattle.core_terms.proofs.Spelled.{spells_read}
 use Rattle.lexemes.specs.Places.{start}
 use Rattle.lexemes.specs.Readings.{is_mark}
 use Rattle.lexemes.specs.Tokens.{KeywordToken, MarkToken, UpperToken, IntToken, TextToken, Tokens, Next, End, Faulty, tokens}
-use Rattle.printed_syntax.specs.Literals.{ConstructorNames, LiteralReading, Means, FaultAt, then_means, mismatch, too_deep, behind_mark, unit_literal, bool_literal, int_literal, text_literal, pair_literal, more_fields, fields_literal, number_of_name, constructor_with, constructor_named, constructor_literal, literal_of, IsValue, FirstFault, at_end, value_within, whole_literal}
+use Rattle.printed_syntax.specs.Literals.{ConstructorNames, LiteralReading, Means, FaultAt, then_means, mismatch, too_deep, behind_mark, unit_literal, bool_literal, int_literal, text_literal, pair_literal, more_values, values_up_to, fields_literal, array_literal, number_of_name, constructor_with, constructor_named, constructor_literal, literal_of, IsValue, FirstFault, at_end, value_within, whole_literal, written_in}
 use Rattle.printed_syntax.specs.LiteralLaws.{IsLiteralValue, LiteralsAreReadBack}
 use Rattle.printed_syntax.specs.declared.fault.LiteralKind.TheVariants.{TooBig}
 use Rattle.lexemes.specs.declared.token.Keyword.TheVariants.{True as TrueWord, False as FalseWord}
 use Rattle.lexemes.specs.declared.token.Mark.{Mark}
-use Rattle.lexemes.specs.declared.token.Mark.TheVariants.{LeftParenthesis, RightParenthesis, Comma}
+use Rattle.lexemes.specs.declared.token.Mark.TheVariants.{LeftParenthesis, RightParenthesis, Comma, LeftBracket, RightBracket}
 use Rattle.printed_syntax.proofs.TokenValues.{HaveValues, tokens_values}
 
 -- what is read has this property, and the tokens behind it have values
@@ -117,19 +118,32 @@ module _ (types : Table) where
       }
 
   module _ (levels : ℕ) (one : Ty → Tokens → LiteralReading Value) (each : (t : Ty) → AlwaysGives (IsOf levels t) (one t)) where
-    more_fields_give : (ts : List Ty) → AlwaysGives (AreOf levels ts) (more_fields one ts)
-    more_fields_give [] tokens h = gives_then Any _ _ _ (mark_gives RightParenthesis tokens h) (λ _ tokens _ h. (none_of levels, h))
-    more_fields_give (t ∷ ts) tokens h =
+    more_give : (ending : Mark) (ts : List Ty) → AlwaysGives (AreOf levels ts) (more_values ending one ts)
+    more_give ending [] tokens h = gives_then Any _ _ _ (mark_gives ending tokens h) (λ _ tokens _ h. (none_of levels, h))
+    more_give ending (t ∷ ts) tokens h =
         gives_then Any _ _ _ (mark_gives Comma tokens h) (λ _ tokens _ h.
         gives_then (IsOf levels t) _ _ _ (each t tokens h) (λ v tokens of_t h.
-        gives_then (AreOf levels ts) _ _ _ (more_fields_give ts tokens h) (λ vs tokens of_ts h. (one_more levels t ts v vs of_t of_ts, h))))
+        gives_then (AreOf levels ts) _ _ _ (more_give ending ts tokens h) (λ vs tokens of_ts h. (one_more levels t ts v vs of_t of_ts, h))))
+
+    values_give : (ending : Mark) (ts : List Ty) → AlwaysGives (AreOf levels ts) (values_up_to ending one ts)
+    values_give ending [] tokens h = gives_then Any _ _ _ (mark_gives ending tokens h) (λ _ tokens _ h. (none_of levels, h))
+    values_give ending (t ∷ ts) tokens h =
+        gives_then (IsOf levels t) _ _ _ (each t tokens h) (λ v tokens of_t h.
+        gives_then (AreOf levels ts) _ _ _ (more_give ending ts tokens h) (λ vs tokens of_ts h. (one_more levels t ts v vs of_t of_ts, h)))
 
     fields_give : (ts : List Ty) → AlwaysGives (AreOf levels ts) (fields_literal one ts)
     fields_give [] tokens h = (none_of levels, h)
     fields_give (t ∷ ts) tokens h =
-        gives_then Any _ _ _ (mark_gives LeftParenthesis tokens h) (λ _ tokens _ h.
-        gives_then (IsOf levels t) _ _ _ (each t tokens h) (λ v tokens of_t h.
-        gives_then (AreOf levels ts) _ _ _ (more_fields_give ts tokens h) (λ vs tokens of_ts h. (one_more levels t ts v vs of_t of_ts, h))))
+        gives_then Any _ _ _ (mark_gives LeftParenthesis tokens h) (λ _ tokens _ h. values_give RightParenthesis (t ∷ ts) tokens h)
+
+    -- an array of these elements
+    filled : (n : ℕ) (t : Ty) (vs : Values) → AreOf levels (item_types n t) vs → IsOf (suc levels) (VecTy n t) (ItemsV vs)
+    filled n t vs h = record { ideal = h.ideal; shallow = h.shallow; deep = omega (arith, h.deep) }
+
+    array_gives : (n : ℕ) (t : Ty) → AlwaysGives (IsOf (suc levels) (VecTy n t)) (array_literal one n t)
+    array_gives n t tokens h =
+        gives_then Any _ _ _ (mark_gives LeftBracket tokens h) (λ _ tokens _ h.
+        gives_then (AreOf levels (item_types n t)) _ _ _ (values_give RightBracket (item_types n t) tokens h) (λ vs tokens of_ts h. (filled n t vs of_ts, h)))
 
     constructor_gives : (offset number tag : ℕ) (found : Option (List Ty)) → fields_at types number tag ≡ found
         → AlwaysGives (IsOf (suc levels) (NamedTy number)) (constructor_with one offset tag found)
@@ -159,13 +173,14 @@ module _ (types : Table) where
   literal_gives names (suc levels) (NamedTy number) tokens h =
       constructor_literal_gives levels (literal_of types names levels) (literal_gives names levels) names number tokens h
   literal_gives names (suc levels) (AuthTy t) tokens h = mismatch_gives (IsOf (suc levels) (AuthTy t)) tokens
-  literal_gives names (suc levels) (VecTy n t) tokens h = mismatch_gives (IsOf (suc levels) (VecTy n t)) tokens
+  literal_gives names (suc levels) (VecTy n t) tokens h = array_gives levels (literal_of types names levels) (literal_gives names levels) n t tokens h
 
 -- the value that the tokens of a text begin with is a shallow one of the type
-pub literal_is_shallow : (types : Table) (names : ConstructorNames) (t : Ty) (text : List ℕ) (v : Value) (rest : Tokens)
-    → literal_of types names depth_limit t (tokens text) ≡ Means v rest → IsShallow types t v
-literal_is_shallow types names t text v rest e =
-    let given : Gives (IsOf types depth_limit t) (Means v rest) = subst (Gives (IsOf types depth_limit t)) e (literal_gives types names depth_limit t (tokens text) (tokens_values 0 start text)) in
+pub literal_is_shallow : (format : Format) (types : Table) (names : ConstructorNames) (t : Ty) (text : List ℕ) (v : Value) (rest : Tokens)
+    → literal_of types names depth_limit t (tokens format text) ≡ Means v rest → IsShallow types t v
+literal_is_shallow format types names t text v rest e =
+    let given : Gives (IsOf types depth_limit t) (Means v rest) =
+    subst (Gives (IsOf types depth_limit t)) e (literal_gives types names depth_limit t (tokens format text) (tokens_values format 0 start text)) in
     given.0.shallow
 
 -- what is read, where it is within the limit
@@ -203,5 +218,5 @@ written P fits t v h =
 pub literals_are_read_back : LiteralsAreReadBack
 literals_are_read_back P fits names t text v e =
     written P fits t v
-    (found P.format.limit P.types t v (literal_of P.types names depth_limit t (tokens text))
-    (literal_gives P.types names depth_limit t (tokens text) (tokens_values 0 start text)) e)
+    (found P.format.limit P.types t v (literal_of P.types names depth_limit t (tokens (written_in P.format) text))
+    (literal_gives P.types names depth_limit t (tokens (written_in P.format) text) (tokens_values (written_in P.format) 0 start text)) e)

@@ -1,15 +1,17 @@
 -- Trees whose tokens stand elsewhere: where tokens begin with those of a tree, wherever they stand, they begin with a tree that is equal
 -- but for places.
-use Rattle.std.proofs.Common.{◌≡◌, List, [], ◌∷◌, ◌++◌, map, codes, Option, Some, None, refl, sym, ap, ap₂, subst, ◌∙◌, arith, length-append}
+use Rattle.std.proofs.Common.{◌≡◌, ℕ, pos, List, [], ◌∷◌, ◌++◌, map, codes, Option, Some, None, refl, sym, ap, ap₂, subst, ◌∙◌, arith, length-append}
+use Rattle.core_terms.specs.declared.format.Format.{Format}
 use Rattle.lexemes.specs.declared.place.Place.{Place}
 use Rattle.lexemes.specs.declared.token.Keyword.{Keyword}
-use Rattle.lexemes.specs.declared.token.Keyword.TheVariants.{«Type» as TypeWord, State as StateWord, Let as LetWord, In as InWord, Match as MatchWord, With as WithWord, End as EndWord, If as IfWord, Then as ThenWord, Else as ElseWord, Auth as AuthWord, Unit as UnitWord, Bool as BoolWord, Int as IntWord, Text as TextWord, Binary as BinaryWord}
+use Rattle.lexemes.specs.declared.token.Keyword.TheVariants.{«Type» as TypeWord, State as StateWord, Let as LetWord, In as InWord, Match as MatchWord, With as WithWord, End as EndWord, If as IfWord, Then as ThenWord, Else as ElseWord, Auth as AuthWord, Unit as UnitWord, Bool as BoolWord, Int as IntWord, Text as TextWord, Vec as VecWord, Binary as BinaryWord}
 use Rattle.lexemes.specs.declared.token.Mark.{Mark}
-use Rattle.lexemes.specs.declared.token.Mark.TheVariants.{LeftParenthesis, RightParenthesis, Comma, Semicolon, Colon, EqualsSign, Bar, Arrow}
+use Rattle.lexemes.specs.declared.token.Mark.TheVariants.{LeftParenthesis, RightParenthesis, Comma, Semicolon, Colon, EqualsSign, Bar, Arrow, LeftBracket, RightBracket}
 use Rattle.lexemes.specs.Places.{start}
 use Rattle.lexemes.specs.Tokens.{Token, KeywordToken, MarkToken, LowerToken, UpperToken, IntToken, TextToken, Tokens, Next, End, Faulty}
-use Rattle.auth_syntax.specs.Syntax.{NameSyntax, TypeSyntax, UnitTypeSyntax, BoolTypeSyntax, IntTypeSyntax, TextTypeSyntax, NamedTypeSyntax, AuthTypeSyntax, PairTypeSyntax, ExpSyntax, UnitSyntax, BoolSyntax, IntSyntax, TextSyntax, LocalSyntax, PairSyntax, UnarySyntax, BinarySyntax, CallSyntax, ConstructorSyntax, LetSyntax, IfSyntax, MatchSyntax, ExpsSyntax, NoExp, AndExp, ArmsSyntax, NoArmSyntax, AndArmSyntax, ParameterSyntax, KindSyntax, FunctionSyntax, ConstructorDeclaration, DeclarationSyntax, TypeDeclaration, StateDeclaration, FunctionDeclaration}
-use Rattle.auth_syntax.specs.Grammar.{Written, anywhere, standing, mark, word, lower, upper, unary_word, bool_word, type_tokens, names_tokens, in_parentheses, expression_tokens, expressions_tokens, arms_tokens, parameter_tokens, parameters_tokens, types_tokens, constructor_tokens, constructors_tokens, kind_keyword, declaration_tokens, declarations_tokens}
+use Rattle.auth_syntax.specs.Syntax.{NameSyntax, TypeSyntax, UnitTypeSyntax, BoolTypeSyntax, IntTypeSyntax, TextTypeSyntax, NamedTypeSyntax, AuthTypeSyntax, PairTypeSyntax, VecTypeSyntax, ArrayOperation, FillOperation, GetOperation, PutOperation, ExpSyntax, UnitSyntax, BoolSyntax, IntSyntax, TextSyntax, LocalSyntax, PairSyntax, UnarySyntax, BinarySyntax, CallSyntax, ConstructorSyntax, OperateSyntax, LetSyntax, IfSyntax, MatchSyntax, ExpsSyntax, NoExp, AndExp, ArmsSyntax, NoArmSyntax, AndArmSyntax, ParameterSyntax, KindSyntax, FunctionSyntax, ConstructorDeclaration, DeclarationSyntax, TypeDeclaration, StateDeclaration, FunctionDeclaration}
+use Rattle.auth_syntax.specs.ProgramTokens.{format_word}
+use Rattle.auth_syntax.specs.Grammar.{Written, anywhere, standing, mark, word, lower, upper, unary_word, array_word, bool_word, length_tokens, brackets, type_tokens, names_tokens, in_parentheses, expression_tokens, expressions_tokens, arms_tokens, parameter_tokens, parameters_tokens, types_tokens, constructor_tokens, constructors_tokens, kind_keyword, declaration_tokens, declarations_tokens, format_number, format_tokens, program_tokens}
 use Rattle.printed_syntax.specs.PrintedPrograms.{token_text, blank_before, in_line, declaration_text, declarations_text}
 use Rattle.printed_syntax.specs.WithoutPlaces.{name_without_place, type_without_places, expression_without_places, expressions_without_places, arms_without_places, parameter_without_places, constructor_without_places, declaration_without_places}
 use Rattle.auth_syntax.proofs.Beginnings.{Begin, begin-append}
@@ -159,6 +161,12 @@ module _ {A : Type 0} (between : Mark) (one : A → List Written) (all : List A 
 abbrev SameType : TypeSyntax → TypeSyntax → Type 0
 SameType t other = type_without_places other ≡ type_without_places t
 
+-- the length of an array, in brackets
+length_moves : (n : ℕ) → CanMove (λ (u : Unit {0}). length_tokens n) (λ u. Unit {0}) (length_tokens n)
+length_moves n =
+    made (λ (u : Unit {0}). length_tokens n) (λ u. Unit {0}) (λ p. tt)
+    (both (the_mark LeftBracket) (both (fixed (IntToken (pos n))) (the_mark RightBracket))) (λ p. refl) (λ p h. tt)
+
 type_moves : (t : TypeSyntax) → CanMove type_tokens (SameType t) (type_tokens t)
 type_moves (UnitTypeSyntax at) =
     made type_tokens (SameType (UnitTypeSyntax at)) UnitTypeSyntax (stands (KeywordToken UnitWord) at) (λ p. refl) (λ p h. refl)
@@ -177,12 +185,21 @@ type_moves (PairTypeSyntax at first second) =
     made type_tokens (SameType (PairTypeSyntax at first second)) (λ p. PairTypeSyntax p.0.0.0 p.0.0.1 p.0.1.1)
     (both (both (both (stands (MarkToken LeftParenthesis) at) (type_moves first)) (both (the_mark Comma) (type_moves second))) (the_mark RightParenthesis))
     (λ p. refl) (λ p h. ap₂ (PairTypeSyntax start) h.0.0.1 h.0.1.1)
+type_moves (VecTypeSyntax at n item) =
+    made type_tokens (SameType (VecTypeSyntax at n item)) (λ p. VecTypeSyntax p.0.0 n p.1)
+    (both (both (stands (KeywordToken VecWord) at) (length_moves n)) (type_moves item)) (λ p. refl) (λ p h. ap (VecTypeSyntax start n) h.1)
 
 types_move : (ts : List TypeSyntax) → CanMove types_tokens (λ others. map type_without_places others ≡ map type_without_places ts) (types_tokens ts)
 types_move = all_move Comma type_tokens types_tokens type_without_places refl (λ t. refl) (λ t next rest. refl) type_moves
 
 names_move : (names : List NameSyntax) → CanMove names_tokens (λ others. map name_without_place others ≡ map name_without_place names) (names_tokens names)
 names_move = all_move Comma (λ (name : NameSyntax). lower name ∷ []) names_tokens name_without_place refl (λ t. refl) (λ t next rest. refl) lower_moves
+
+-- what stands between the word of an operation on arrays and its operands
+brackets_move : (operation : ArrayOperation) → CanMove (λ (u : Unit {0}). brackets operation) (λ u. Unit {0}) (brackets operation)
+brackets_move (FillOperation n) = length_moves n
+brackets_move GetOperation = nothing
+brackets_move PutOperation = nothing
 
 -- expressions
 abbrev SameExpression : ExpSyntax → ExpSyntax → Type 0
@@ -236,6 +253,12 @@ mutual
       (both (stands (UpperToken name) at)
       (parenthesized expressions_tokens (SameExpressions operands) (expressions_tokens operands) (expressions_move operands)))
       (λ p. refl) (λ p h. ap (ConstructorSyntax start name) h.1)
+  expression_moves (OperateSyntax at operation operands) =
+      made expression_tokens (SameExpression (OperateSyntax at operation operands)) (λ p. OperateSyntax p.0.0.0 operation p.0.1.1)
+      (both
+      (both (both (stands (KeywordToken (array_word operation)) at) (brackets_move operation)) (both (the_mark LeftParenthesis) (expressions_move operands)))
+      (the_mark RightParenthesis))
+      (λ p. refl) (λ p h. ap (OperateSyntax start operation) h.0.1.1)
   expression_moves (LetSyntax at name bound body) =
       made expression_tokens (SameExpression (LetSyntax at name bound body)) (λ p. LetSyntax p.0.0 p.0.1.0 p.0.1.1.1 p.1.1)
       (both
@@ -374,8 +397,18 @@ abbrev pub SameDeclarations : List DeclarationSyntax → List DeclarationSyntax 
 SameDeclarations ds others =
     (map declaration_without_places others ≡ map declaration_without_places ds) × (declarations_text others ≡ declarations_text ds)
 
-pub declarations_move : (ds : List DeclarationSyntax) → CanMove declarations_tokens (SameDeclarations ds) (declarations_tokens ds)
+declarations_move : (ds : List DeclarationSyntax) → CanMove declarations_tokens (SameDeclarations ds) (declarations_tokens ds)
 declarations_move [] = made declarations_tokens (SameDeclarations []) (λ u. []) nothing (λ u. refl) (λ u h. (refl, refl))
 declarations_move (d ∷ ds) =
     made declarations_tokens (SameDeclarations (d ∷ ds)) (λ p. p.0 ∷ p.1) (both (with_line d) (declarations_move ds)) (λ p. refl)
     (λ p h. (ap₂ (λ d ds. d ∷ ds) h.0.0 h.1.0, ap₂ (λ line lines. line ++ lines) h.0.1 h.1.1))
+
+-- what a program tells of its format, before its declarations
+format_moves : (format : Option Format) → CanMove (λ (u : Unit {0}). format_tokens format) (λ u. Unit {0}) (format_tokens format)
+format_moves None = nothing
+format_moves (Some format) =
+    made (λ (u : Unit {0}). format_tokens (Some format)) (λ u. Unit {0}) (λ p. tt)
+    (both (fixed (LowerToken format_word)) (both (fixed (IntToken (format_number format))) (the_mark Semicolon))) (λ p. refl) (λ p h. tt)
+
+pub program_moves : (format : Option Format) (ds : List DeclarationSyntax) → CanMove (program_tokens format) (SameDeclarations ds) (program_tokens format ds)
+program_moves format ds = made (program_tokens format) (SameDeclarations ds) (λ p. p.1) (both (format_moves format) (declarations_move ds)) (λ p. refl) (λ p h. h.1)

@@ -1,13 +1,15 @@
 -- Whether a tree is well-formed hangs on no place in it.
-use Rattle.std.proofs.Common.{◌≡◌, ℕ, suc, max, ◌≤◌, List, [], ◌∷◌, map, refl, sym, ap, ap₂, subst}
-use Rattle.auth_syntax.specs.Syntax.{TypeSyntax, AuthTypeSyntax, PairTypeSyntax, ExpSyntax, PairSyntax, UnarySyntax, BinarySyntax, CallSyntax, ConstructorSyntax, LetSyntax, IfSyntax, MatchSyntax, ExpsSyntax, NoExp, AndExp, ArmsSyntax, NoArmSyntax, AndArmSyntax, ParameterSyntax, FunctionSyntax, ConstructorDeclaration, DeclarationSyntax, TypeDeclaration, StateDeclaration, FunctionDeclaration}
-use Rattle.auth_syntax.specs.Grammar.{type_levels, expression_levels, expressions_levels, arms_levels, HasParts, HaveParts, ArmsHaveParts, IsSome, IsType, IsExpression, AreTypes, AreParameters, AreConstructors, IsFunction, IsDeclaration, AreDeclarations}
+use Rattle.std.proofs.Common.{◌≡◌, ℕ, suc, max, ◌≤◌, true, List, [], ◌∷◌, map, refl, sym, ap, ap₂, subst}
+use Rattle.core_terms.specs.Types.{is_length}
+use Rattle.auth_syntax.specs.Syntax.{TypeSyntax, AuthTypeSyntax, PairTypeSyntax, VecTypeSyntax, ExpSyntax, PairSyntax, UnarySyntax, BinarySyntax, CallSyntax, ConstructorSyntax, OperateSyntax, LetSyntax, IfSyntax, MatchSyntax, ExpsSyntax, NoExp, AndExp, ArmsSyntax, NoArmSyntax, AndArmSyntax, ParameterSyntax, FunctionSyntax, ConstructorDeclaration, DeclarationSyntax, TypeDeclaration, StateDeclaration, FunctionDeclaration}
+use Rattle.auth_syntax.specs.Grammar.{type_levels, expression_levels, expressions_levels, arms_levels, HasLengths, has_length, others_of, row_length, HasParts, HaveParts, ArmsHaveParts, IsSome, IsType, IsExpression, AreTypes, AreParameters, AreConstructors, IsFunction, IsDeclaration, AreDeclarations}
 use Rattle.printed_syntax.specs.WithoutPlaces.{type_without_places, expression_without_places, expressions_without_places, arms_without_places, parameter_without_places, function_without_places, constructor_without_places, declaration_without_places}
 
 -- levels
 type_levels_same : (t : TypeSyntax) → type_levels (type_without_places t) ≡ type_levels t
 type_levels_same (AuthTypeSyntax at inner) = ap suc (type_levels_same inner)
 type_levels_same (PairTypeSyntax at first second) = ap₂ (λ a b. suc (max a b)) (type_levels_same first) (type_levels_same second)
+type_levels_same (VecTypeSyntax at n item) = ap suc (type_levels_same item)
 type_levels_same t = refl
 
 mutual
@@ -17,6 +19,7 @@ mutual
   levels_same (BinarySyntax at operation first second) = ap₂ (λ a b. suc (max a b)) (levels_same first) (levels_same second)
   levels_same (CallSyntax at name operands) = ap suc (all_levels_same operands)
   levels_same (ConstructorSyntax at name operands) = ap suc (all_levels_same operands)
+  levels_same (OperateSyntax at operation operands) = ap suc (all_levels_same operands)
   levels_same (LetSyntax at name bound body) = ap₂ (λ a b. suc (max a b)) (levels_same bound) (levels_same body)
   levels_same (IfSyntax at test first other) =
       ap₂ (λ a b. suc (max a b)) (levels_same test) (ap₂ max (levels_same first) (levels_same other))
@@ -35,7 +38,18 @@ mutual
 abbrev IsSame : Type 0 → Type 0 → Type 1
 IsSame P Q = ◌≡◌ {A = Type 0} P Q
 
+-- the lengths of arrays
+lengths_same : (t : TypeSyntax) → IsSame (HasLengths (type_without_places t)) (HasLengths t)
+lengths_same (AuthTypeSyntax at inner) = lengths_same inner
+lengths_same (PairTypeSyntax at first second) = ap₂ (λ P Q. P × Q) (lengths_same first) (lengths_same second)
+lengths_same (VecTypeSyntax at n item) = ap (λ (P : Type 0). (is_length n ≡ true) × P) (lengths_same item)
+lengths_same t = refl
+
 -- the parts that there have to be
+row_same : (es : ExpsSyntax) → row_length (expressions_without_places es) ≡ row_length es
+row_same NoExp = refl
+row_same (AndExp e rest) = ap suc (row_same rest)
+
 mutual
   parts_same : (e : ExpSyntax) → IsSame (HasParts (expression_without_places e)) (HasParts e)
   parts_same (PairSyntax at first second) = ap₂ (λ P Q. P × Q) (parts_same first) (parts_same second)
@@ -44,6 +58,8 @@ mutual
   parts_same (CallSyntax at name NoExp) = refl
   parts_same (CallSyntax at name (AndExp e rest)) = all_parts_same (AndExp e rest)
   parts_same (ConstructorSyntax at name operands) = all_parts_same operands
+  parts_same (OperateSyntax at operation operands) =
+      ap₂ (λ n (P : Type 0). (has_length operation ≡ true) × (n ≡ suc (others_of operation)) × P) (row_same operands) (all_parts_same operands)
   parts_same (LetSyntax at name bound body) = ap₂ (λ P Q. P × Q) (parts_same bound) (parts_same body)
   parts_same (IfSyntax at test first other) =
       ap₂ (λ P (Q : Type 0 × Type 0). P × Q.0 × Q.1) (parts_same test) (ap₂ (λ P Q. (P, Q)) (parts_same first) (parts_same other))
@@ -62,7 +78,7 @@ mutual
 
 module _ (limit : ℕ) where
   type_same : (t : TypeSyntax) → IsSame (IsType limit (type_without_places t)) (IsType limit t)
-  type_same t = ap (λ n. n ≤ limit) (type_levels_same t)
+  type_same t = ap₂ (λ P n. P × (n ≤ limit)) (lengths_same t) (type_levels_same t)
 
   expression_same : (e : ExpSyntax) → IsSame (IsExpression limit (expression_without_places e)) (IsExpression limit e)
   expression_same e = ap₂ (λ P n. P × (n ≤ limit)) (parts_same e) (levels_same e)

@@ -1,11 +1,12 @@
 -- The printed text of programs, computed.
 use Rattle.std.proofs.Common.{◌≡◌, refl}
-use Rattle.std.specs.Prelude.{ℕ, ℤ, pos, negsuc, List, [], ◌∷◌, ◌++◌, codes, true, false, None}
+use Rattle.std.specs.Prelude.{ℕ, ℤ, pos, negsuc, List, [], ◌∷◌, ◌++◌, codes, true, false, Some, None}
 use Rattle.std.specs.Fmt.{digits}
 use Rattle.std.specs.Str.{is_utf8, chars}
 use Rattle.hex.specs.Hex.{encode_with}
 use lib.Utf8.{encode}
 use Rattle.lexemes.specs.Places.{start}
+use Rattle.core_terms.specs.declared.format.Format.TheVariants.{Second}
 use Rattle.core_terms.specs.declared.term.BinaryOperator.TheVariants.{TextCompare}
 use Rattle.core_terms.specs.declared.term.TextCompare.TheVariants.{Lt as TLt}
 use Rattle.lexemes.specs.declared.token.Keyword.TheVariants as keyword
@@ -59,6 +60,22 @@ one_before_an_equals_sign = refl
 one_behind_a_comma : are_apart (MarkToken mark.Comma) (MarkToken mark.LeftParenthesis) ≡ true
 one_behind_a_comma = refl
 
+-- beside brackets
+none_before_a_left_bracket : are_apart (KeywordToken keyword.Vec) (MarkToken mark.LeftBracket) ≡ false
+none_before_a_left_bracket = refl
+
+none_behind_a_left_bracket : are_apart (MarkToken mark.LeftBracket) (IntToken (pos 2)) ≡ false
+none_behind_a_left_bracket = refl
+
+none_before_a_right_bracket : are_apart (IntToken (pos 2)) (MarkToken mark.RightBracket) ≡ false
+none_before_a_right_bracket = refl
+
+one_behind_a_right_bracket : are_apart (MarkToken mark.RightBracket) (MarkToken mark.LeftParenthesis) ≡ true
+one_behind_a_right_bracket = refl
+
+one_behind_an_operation_on_arrays : are_apart (KeywordToken keyword.VecGet) (MarkToken mark.LeftParenthesis) ≡ true
+one_behind_an_operation_on_arrays = refl
+
 -- three declarations, by their tree
 at_start : List ℕ → NameSyntax
 at_start name = record { at = start; name = name }
@@ -67,6 +84,7 @@ auth_unit : TypeSyntax
 auth_unit = AuthTypeSyntax start (UnitTypeSyntax start)
 
 three_declarations : program_text (record {
+  format = None;
   declarations =
       StateDeclaration start auth_unit
       ∷ FunctionDeclaration start (record {
@@ -93,8 +111,14 @@ three_declarations : program_text (record {
 unfolding at_start auth_unit
 three_declarations = refl
 
-no_declarations : program_text (record { declarations = []; end = start }) ≡ []
+no_declarations : program_text (record { format = None; declarations = []; end = start }) ≡ []
 no_declarations = refl
+
+-- a format that is told
+second_format : program_text (record { format = Some Second; declarations = StateDeclaration start auth_unit ∷ []; end = start })
+    ≡ lines (codes "format 2;" ∷ codes "state auth unit;" ∷ [])
+unfolding auth_unit digits
+second_format = refl
 
 -- ints
 abbrev int_text : ℤ → List ℕ
@@ -164,3 +188,22 @@ lets_and_conditions = refl
 matches : printed_again (codes "query f(x:int):t=match g(x)with|A->()|B(y,z)->match y with|C->z end end;") ≡ lines (
     codes "query f(x: int): t = match g(x) with | A -> () | B(y, z) -> match y with | C -> z end end;" ∷ [])
 matches = refl
+
+-- arrays, in the second format
+arrays : printed_again (codes "format 2;type t=A(vec[2](int,int));state vec[ 3 ]auth int;fun f(x:int):vec[2]int=vfill[2](x);query g(s:vec[2]int,i:int):int=vget(vput(s,i,7),i);") ≡ lines (
+    codes "format 2;"
+    ∷ codes "type t = A(vec[2] (int, int));"
+    ∷ codes "state vec[3] auth int;"
+    ∷ codes "fun f(x: int): vec[2] int = vfill[2] (x);"
+    ∷ codes "query g(s: vec[2] int, i: int): int = vget (vput (s, i, 7), i);"
+    ∷ [])
+unfolding digits
+arrays = refl
+
+-- the first format, told; its programs have other names than arrays' words
+first_format : printed_again (codes "format 1;fun vget(vec:int):int=vget(vec);") ≡ lines (codes "format 1;" ∷ codes "fun vget(vec: int): int = vget(vec);" ∷ [])
+unfolding digits
+first_format = refl
+
+format_is_a_name : printed_again (codes "fun format(format:int):int=format(format);") ≡ lines (codes "fun format(format: int): int = format(format);" ∷ [])
+format_is_a_name = refl

@@ -7,16 +7,16 @@ use Rattle.std.specs.Str.Parse.{AllDigits, IsNumeral, digits_value}
 use Rattle.std.proofs.lemmas.Fmt.{decimal_is_IsNumeral}
 use Rattle.std.proofs.lemmas.Bool.{agree_below_at}
 use Rattle.std.proofs.lemmas.Str.{is_utf8-from_IsUtf8}
-use Rattle.std.proofs.lemmas.List.{append-nil}
 use Rattle.std.proofs.Math.Seq.{take-append_seam, drop-append_seam}
 use Rattle.std.proofs.lemmas.Str.Parse.{digit_from_value}
+use Rattle.core_terms.specs.declared.format.Format.{Format}
 use Rattle.core_terms.specs.Values.{int_fits}
 use Rattle.lexemes.specs.declared.place.Place.{Place}
 use Rattle.lexemes.specs.declared.fault.LexicalFault.TheVariants.{NumberRange, TextLong, Utf8}
-use Rattle.lexemes.specs.Places.{start, behind}
+use Rattle.lexemes.specs.Places.{behind}
 use Rattle.hex.specs.Hex.{encode_lower, encode_with, lower_digits}
 use Rattle.printed_syntax.specs.PrintedValues.{all_escaped, escaped, quoted_text}
-use Rattle.lexemes.specs.Tokens.{Closed, TextToken, hex_digit, is_control, put, quoted_behind, text_limit, text_piece, Token, IntToken, Next, End, Taken, Wrong, digits_of, first_piece, int_piece, is_blank, minus_piece, negative, is_name_byte, tokens, tokens_from}
+use Rattle.lexemes.specs.Tokens.{Closed, TextToken, hex_digit, is_control, put, quoted_behind, text_limit, text_piece, Token, IntToken, Next, Taken, Wrong, digits_of, first_piece, int_piece, is_blank, minus_piece, negative, is_name_byte, tokens_from}
 use Rattle.lexemes.specs.PieceViews.{head_piece}
 use Rattle.lexemes.proofs.TokenLemmas.{tokens-taken}
 use Rattle.lexemes.proofs.NumberLemmas.{both_true}
@@ -26,23 +26,16 @@ abbrev pub IsParted : List ℕ → Type 0
 IsParted [] = Unit {0}
 IsParted (b ∷ rest) = is_name_byte b ≡ false
 
--- these bytes are a token at the head of a text
-abbrev pub IsHeadToken : List ℕ → Token → List ℕ → Type 0
-IsHeadToken bytes token rest = head_piece (bytes ++ rest) ≡ Some (Taken token (length bytes))
+-- these bytes are a token of the format at the head of a text
+abbrev pub IsHeadToken : Format → List ℕ → Token → List ℕ → Type 0
+IsHeadToken format bytes token rest = head_piece format (bytes ++ rest) ≡ Some (Taken token (length bytes))
 
 -- a text that begins with a token has this token first
-pub token_read : (bytes : List ℕ) (token : Token) (rest : List ℕ) (at : Place) → IsHeadToken bytes token rest
-    → tokens_from at (bytes ++ rest) ≡ Next at token (tokens_from (behind at bytes) rest)
-token_read bytes token rest at e =
-    tokens-taken (bytes ++ rest) at token (length bytes) (sym e)
-    ∙ ap₂ (λ before others. Next at token (tokens_from (behind at before) others)) (take-append_seam bytes rest) (drop-append_seam bytes rest)
-
--- a text is one token
-abbrev pub IsOneToken : List ℕ → Token → Type 0
-IsOneToken text token = (end : Place) × (tokens text ≡ Next start token (End end))
-
-pub one_token : (text : List ℕ) (token : Token) → IsHeadToken text token [] → IsOneToken text token
-one_token text token e = (behind start text, ap tokens (sym (append-nil text)) ∙ token_read text token [] start e)
+pub token_read : (format : Format) (bytes : List ℕ) (token : Token) (rest : List ℕ) (at : Place) → IsHeadToken format bytes token rest
+    → tokens_from format at (bytes ++ rest) ≡ Next at token (tokens_from format (behind at bytes) rest)
+token_read format bytes token rest at e =
+    tokens-taken format (bytes ++ rest) at token (length bytes) (sym e)
+    ∙ ap₂ (λ before others. Next at token (tokens_from format (behind at before) others)) (take-append_seam bytes rest) (drop-append_seam bytes rest)
 
 -- a run of bytes that pass a test ends where others stand
 run_is : (p : ℕ → Bool) (bytes rest : List ℕ) → list_all p bytes ≡ true → ((b : ℕ) → is_name_byte b ≡ false → p b ≡ false) → IsParted rest
@@ -70,6 +63,15 @@ stops_digits b h = grind (arith)
 run_of_digits : (ds rest : List ℕ) → AllDigits 10 ds → IsParted rest → digits_of (ds ++ rest) ≡ ds
 run_of_digits ds rest h parted = run_taken is_ascii_digit ds rest (all_digits ds h) stops_digits parted
 
+-- a test that is passed over, and one that is met
+pub passed : {A : Type 0} (test : Bool) (x y : A) → test ≡ false → (if test then x else y) ≡ y
+passed true x y h = absurd (cc)
+passed false x y h = refl
+
+pub met : {A : Type 0} (test : Bool) (x y : A) → test ≡ true → (if test then x else y) ≡ x
+met true x y h = refl
+met false x y h = absurd (cc)
+
 -- a digit is nothing that is asked for before it
 no_blank : (b : ℕ) → is_ascii_digit b ≡ true → is_blank b ≡ false
 no_blank b h = grind (arith)
@@ -86,16 +88,20 @@ no_capital b h = grind (arith)
 no_arrow : (b : ℕ) → is_ascii_digit b ≡ true → b == 62 ≡ false
 no_arrow b h = grind (arith)
 
-first_digit : (b : ℕ) (rest : List ℕ) → is_ascii_digit b ≡ true → first_piece b rest ≡ int_piece false (digits_of (b ∷ rest)) (length (digits_of (b ∷ rest)))
-first_digit b rest h = rw (no_blank b h, no_comment b h, no_small b h, no_capital b h, h) refl
+first_digit : (format : Format) (b : ℕ) (rest : List ℕ) → is_ascii_digit b ≡ true
+    → first_piece format b rest ≡ int_piece false (digits_of (b ∷ rest)) (length (digits_of (b ∷ rest)))
+first_digit format b rest h =
+    passed (is_blank b) _ _ (no_blank b h)
+    ∙ (passed (b == 35) _ _ (no_comment b h)
+    ∙ (passed (is_ascii_lowercase b) _ _ (no_small b h) ∙ (passed (is_ascii_uppercase b) _ _ (no_capital b h) ∙ met (is_ascii_digit b) _ _ h)))
 
 -- the digits of a number are a token
-pub int_at_head : (ds : List ℕ) (n : ℕ) (rest : List ℕ) → IsNumeral 10 ds → digits_value 10 ds ≡ n → nat_lt n (2 ^ 63) ≡ true → IsParted rest
-    → IsHeadToken ds (IntToken (pos n)) rest
-int_at_head [] n rest h value fits parted = absurd (omega (arith, h.0))
-int_at_head (b ∷ ds) n rest h value fits parted =
+pub int_at_head : (format : Format) (ds : List ℕ) (n : ℕ) (rest : List ℕ) → IsNumeral 10 ds → digits_value 10 ds ≡ n → nat_lt n (2 ^ 63) ≡ true → IsParted rest
+    → IsHeadToken format ds (IntToken (pos n)) rest
+int_at_head format [] n rest h value fits parted = absurd (omega (arith, h.0))
+int_at_head format (b ∷ ds) n rest h value fits parted =
     ap (λ piece. Some piece)
-    (first_digit b (ds ++ rest) (is_digit b h.1.0)
+    (first_digit format b (ds ++ rest) (is_digit b h.1.0)
     ∙ ap (λ digits. int_piece false digits (length digits)) (run_of_digits (b ∷ ds) rest h.1 parted)
     ∙ ap (λ n. if nat_lt n (2 ^ 63) then Taken (IntToken (pos n)) (length (b ∷ ds)) else Wrong NumberRange 0) value
     ∙ ap (λ test. if test then Taken (IntToken (pos n)) (length (b ∷ ds)) else Wrong NumberRange 0) fits)
@@ -105,9 +111,9 @@ behind_minus : (ds rest : List ℕ) → IsNumeral 10 ds → minus_piece (ds ++ r
 behind_minus [] rest h = absurd (omega (arith, h.0))
 behind_minus (d ∷ ds) rest h = let digit = is_digit d h.1.0 in rw (no_arrow d digit, digit) refl
 
-pub negative_at_head : (ds : List ℕ) (n : ℕ) (rest : List ℕ) → IsNumeral 10 ds → digits_value 10 ds ≡ suc n → nat_lt n (2 ^ 63) ≡ true → IsParted rest
-    → IsHeadToken (45 ∷ ds) (IntToken (negsuc n)) rest
-negative_at_head ds n rest h value fits parted =
+pub negative_at_head : (format : Format) (ds : List ℕ) (n : ℕ) (rest : List ℕ) → IsNumeral 10 ds → digits_value 10 ds ≡ suc n → nat_lt n (2 ^ 63) ≡ true → IsParted rest
+    → IsHeadToken format (45 ∷ ds) (IntToken (negsuc n)) rest
+negative_at_head format ds n rest h value fits parted =
     let small : suc n ≤ 2 ^ 63 = omega (arith, ltb-true n (2 ^ 63) fits) in
     let size : length ds + 1 ≡ suc (length ds) = omega arith in
     ap (λ piece. Some piece)
@@ -169,8 +175,8 @@ read_all (b ∷ bytes) offset rest =
     ∙ ap (Closed (b ∷ bytes)) size
 
 -- a text in quotes is a token, whatever stands behind it
-pub text_at_head : (bytes rest : List ℕ) → IsUtf8 bytes → length bytes ≤ text_limit → IsHeadToken (quoted_text bytes) (TextToken bytes) rest
-text_at_head bytes rest utf8 short =
+pub text_at_head : (format : Format) (bytes rest : List ℕ) → IsUtf8 bytes → length bytes ≤ text_limit → IsHeadToken format (quoted_text bytes) (TextToken bytes) rest
+text_at_head format bytes rest utf8 short =
     let size : 1 + length (all_escaped bytes) + 1 ≡ suc (length (all_escaped bytes ++ codes "\"")) = omega (arith, length-append (all_escaped bytes) (codes "\"")) in
     ap (λ piece. Some piece)
     (ap (λ others. text_piece (quoted_behind zero 1 others)) (append_assoc (all_escaped bytes) (codes "\"") rest)
@@ -179,10 +185,10 @@ text_at_head bytes rest utf8 short =
     ∙ ap (λ test. if test then Taken (TextToken bytes) (1 + length (all_escaped bytes) + 1) else Wrong TextLong 0) (le-leb (length bytes) text_limit short)
     ∙ ap (Taken (TextToken bytes)) size)
 
-pub int_token : (z : ℤ) (rest : List ℕ) → int_fits z ≡ true → IsParted rest → IsHeadToken (signed_decimal z) (IntToken z) rest
-int_token (pos n) rest h parted =
+pub int_token : (format : Format) (z : ℤ) (rest : List ℕ) → int_fits z ≡ true → IsParted rest → IsHeadToken format (signed_decimal z) (IntToken z) rest
+int_token format (pos n) rest h parted =
     let numeral = decimal_is_IsNumeral n (omega (arith, ltb-true n (2 ^ 63) h)) in
-    int_at_head (decimal n) n rest numeral.0 numeral.1 h parted
-int_token (negsuc n) rest h parted =
+    int_at_head format (decimal n) n rest numeral.0 numeral.1 h parted
+int_token format (negsuc n) rest h parted =
     let numeral = decimal_is_IsNumeral (suc n) (omega (arith, ltb-true n (2 ^ 63) h)) in
-    negative_at_head (decimal (suc n)) n rest numeral.0 numeral.1 h parted
+    negative_at_head format (decimal (suc n)) n rest numeral.0 numeral.1 h parted

@@ -1,15 +1,15 @@
 -- A reading of literals that gives a value exactly where a rule holds, and tells a fault exactly where another one does: step by step.
 use Rattle.std.proofs.Common.{◌≡◌, ℕ, Bool, true, false, List, [], ◌∷◌, inl, inr, refl, sym, ap, ◌∙◌, subst, if◌then◌else◌}
-use Rattle.core_terms.specs.Types.{Ty}
-use Rattle.core_terms.specs.Values.{Value, Values, NoV, AndV}
+use Rattle.core_terms.specs.Types.{Ty, item_types}
+use Rattle.core_terms.specs.Values.{Value, ItemsV, Values, NoV, AndV}
 use Rattle.lexemes.specs.Readings.{is_mark}
 use Rattle.lexemes.specs.Tokens.{MarkToken, Tokens, Next, End, Faulty}
 use Rattle.lexemes.specs.declared.place.Place.{Place}
 use Rattle.lexemes.specs.declared.token.Mark.{Mark}
-use Rattle.lexemes.specs.declared.token.Mark.TheVariants.{RightParenthesis, Comma, LeftParenthesis}
+use Rattle.lexemes.specs.declared.token.Mark.TheVariants.{RightParenthesis, Comma, LeftParenthesis, LeftBracket, RightBracket}
 use Rattle.lexemes.proofs.Signs.{is_mark-true, is_mark-same}
-use Rattle.printed_syntax.specs.Literals.{LiteralReading, Means, FaultAt, then_means, behind_mark, more_fields, fields_literal}
-use Rattle.printed_syntax.specs.LiteralRules.{IsTokenAt, IsUnfit, Part, TheMark, ValueOf, later_field_parts, field_parts, ArePartsAt, OnePartBreaks}
+use Rattle.printed_syntax.specs.Literals.{LiteralReading, Means, FaultAt, then_means, behind_mark, more_values, values_up_to, fields_literal, array_literal}
+use Rattle.printed_syntax.specs.LiteralRules.{IsTokenAt, IsUnfit, Part, TheMark, ValueOf, more_parts, parts_up_to, field_parts, array_parts, ArePartsAt, OnePartBreaks}
 use Rattle.printed_syntax.specs.declared.fault.LiteralKind.{LiteralKind}
 use Rattle.printed_syntax.specs.declared.fault.LiteralKind.TheVariants.{Mismatch}
 
@@ -123,21 +123,31 @@ module _ (one : Ty → Tokens → LiteralReading Value) where
   row (TheMark mark ∷ parts) go tokens = then_means (behind_mark mark tokens) (λ _ tokens. row parts go tokens)
   row (ValueOf t ∷ parts) go tokens = then_means (one t tokens) (λ v tokens. row parts (λ vs tokens. go (AndV v vs) tokens) tokens)
 
-  pub later_fields : {B : Type 0} (ts : List Ty) (go : Values → Tokens → LiteralReading B) (tokens : Tokens)
-      → then_means (more_fields one ts tokens) go ≡ row (later_field_parts ts) go tokens
-  later_fields [] go tokens = then_then (behind_mark RightParenthesis tokens) _ go
-  later_fields (t ∷ ts) go tokens =
+  more : {B : Type 0} (ending : Mark) (ts : List Ty) (go : Values → Tokens → LiteralReading B) (tokens : Tokens)
+      → then_means (more_values ending one ts tokens) go ≡ row (more_parts ending ts) go tokens
+  more ending [] go tokens = then_then (behind_mark ending tokens) _ go
+  more ending (t ∷ ts) go tokens =
       then_then (behind_mark Comma tokens) _ go
       ∙ then_alike (behind_mark Comma tokens) _ _ (λ _ tokens. then_then (one t tokens) _ go
-      ∙ then_alike (one t tokens) _ _ (λ v tokens. then_then (more_fields one ts tokens) _ go ∙ later_fields ts (λ vs tokens. go (AndV v vs) tokens) tokens))
+      ∙ then_alike (one t tokens) _ _ (λ v tokens. then_then (more_values ending one ts tokens) _ go ∙ more ending ts (λ vs tokens. go (AndV v vs) tokens) tokens))
+
+  up_to : {B : Type 0} (ending : Mark) (ts : List Ty) (go : Values → Tokens → LiteralReading B) (tokens : Tokens)
+      → then_means (values_up_to ending one ts tokens) go ≡ row (parts_up_to ending ts) go tokens
+  up_to ending [] go tokens = then_then (behind_mark ending tokens) _ go
+  up_to ending (t ∷ ts) go tokens =
+      then_then (one t tokens) _ go
+      ∙ then_alike (one t tokens) _ _ (λ v tokens. then_then (more_values ending one ts tokens) _ go ∙ more ending ts (λ vs tokens. go (AndV v vs) tokens) tokens)
 
   pub fields : {B : Type 0} (ts : List Ty) (go : Values → Tokens → LiteralReading B) (tokens : Tokens)
       → then_means (fields_literal one ts tokens) go ≡ row (field_parts ts) go tokens
   fields [] go tokens = refl
   fields (t ∷ ts) go tokens =
       then_then (behind_mark LeftParenthesis tokens) _ go
-      ∙ then_alike (behind_mark LeftParenthesis tokens) _ _ (λ _ tokens. then_then (one t tokens) _ go
-      ∙ then_alike (one t tokens) _ _ (λ v tokens. then_then (more_fields one ts tokens) _ go ∙ later_fields ts (λ vs tokens. go (AndV v vs) tokens) tokens))
+      ∙ then_alike (behind_mark LeftParenthesis tokens) _ _ (λ _ tokens. up_to RightParenthesis (t ∷ ts) go tokens)
+
+  pub elements : (n : ℕ) (t : Ty) (tokens : Tokens) → array_literal one n t tokens ≡ row (array_parts n t) (λ vs tokens. Means (ItemsV vs) tokens) tokens
+  elements n t tokens =
+      then_alike (behind_mark LeftBracket tokens) _ _ (λ _ tokens. up_to RightBracket (item_types n t) (λ vs tokens. Means (ItemsV vs) tokens) tokens)
 
   module _ (Is : Ty → Value → Tokens → Tokens → Type 0) (BreaksValue : Ty → Tokens → LiteralKind → ℕ → Type 0)
       (each : (t : Ty) (before : Tokens) → Ruled (one t before) (λ v after. Is t v before after) (BreaksValue t before)) where

@@ -1,5 +1,6 @@
 -- The tokens of a text have values: an int is one of 64 bits, and a text is UTF-8.
 use Rattle.std.proofs.Common.{◌≡◌, ℕ, true, List, IsUtf8}
+use Rattle.core_terms.specs.declared.format.Format.{Format}
 use Rattle.core_terms.specs.Values.{int_fits}
 use Rattle.lexemes.specs.declared.place.Place.{Place}
 use Rattle.lexemes.specs.Tokens.{Token, IntToken, TextToken, Tokens, Next, End, Faulty, tokens_behind}
@@ -16,15 +17,15 @@ abbrev pub HaveValues : Tokens → Type 0
 HaveValues (Next at token rest) = HasValue token × HaveValues rest
 HaveValues tokens = Unit {0}
 
-value : (token : Token) → IsToken token → HasValue token
-value (IntToken z) h = h
-value (TextToken bytes) h = h.0
-value token h = tt
+value : (format : Format) (token : Token) → IsToken format token → HasValue token
+value format (IntToken z) h = h
+value format (TextToken bytes) h = h.0
+value format token h = tt
 
-values : (tokens : Tokens) → AllTokens tokens → HaveValues tokens
-values (Next at token rest) h = (value token h.0, values rest h.1)
-values (End at) h = tt
-values (Faulty at kind) h = tt
+values : (format : Format) (tokens : Tokens) → AllTokens format tokens → HaveValues tokens
+values format (Next at token rest) h = (value format token h.0, values format rest h.1)
+values format (End at) h = tt
+values format (Faulty at kind) h = tt
 
-pub tokens_values : (n : ℕ) (at : Place) (text : List ℕ) → HaveValues (tokens_behind n at text)
-tokens_values n at text = values (tokens_behind n at text) (tokens_all n at text)
+pub tokens_values : (format : Format) (n : ℕ) (at : Place) (text : List ℕ) → HaveValues (tokens_behind format n at text)
+tokens_values format n at text = values format (tokens_behind format n at text) (tokens_all format n at text)

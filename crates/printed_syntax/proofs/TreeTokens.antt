@@ -75,17 +75,18 @@ declarations_append (first ∷ rest) d =
     ap (λ text. declaration_text first ++ text) (declarations_append rest d)
     ∙ sym (append_assoc (declaration_text first) (declarations_text rest) (declaration_text d))
 
-pub declarations_more : (declarations : List Declaration) (i : ℕ) (d : Declaration) (before middle after : Line)
-    → before ≡ at_line (declarations_text (map declaration_of (take i declarations)))
+pub declarations_more : (text : List ℕ) (declarations : List Declaration) (i : ℕ) (d : Declaration) (before middle after : Line)
+    → before ≡ at_line (text ++ declarations_text (map declaration_of (take i declarations)))
     → middle ≡ with_tokens before (declaration_tokens (declaration_of d)) → after ≡ with_end middle
     → d ≡ get_or declarations i d → i < length declarations
-    → after ≡ at_line (declarations_text (map declaration_of (take (i + 1) declarations)))
-declarations_more declarations i d before middle after e e' e'' is h =
+    → after ≡ at_line (text ++ declarations_text (map declaration_of (take (i + 1) declarations)))
+declarations_more text declarations i d before middle after e e' e'' is h =
     let others = map declaration_of (take i declarations) in
     e''
     ∙ ap with_end (e' ∙ ap (λ (l : Line). with_tokens l (declaration_tokens (declaration_of d))) e)
-    ∙ line_ended (declarations_text others) (declaration_tokens (declaration_of d))
-    ∙ ap at_line
+    ∙ line_ended (text ++ declarations_text others) (declaration_tokens (declaration_of d))
+    ∙ ap at_line (append_assoc text (declarations_text others) (declaration_text (declaration_of d)))
+    ∙ ap (λ lines. at_line (text ++ lines))
     (sym (declarations_append others (declaration_of d))
     ∙ ap (λ (d : Declaration). declarations_text (others ++ declaration_of d ∷ [])) is
     ∙ ap declarations_text (sym (map-append declaration_of (take i declarations) (get_or declarations i d ∷ [])))

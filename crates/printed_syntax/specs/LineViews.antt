@@ -6,13 +6,13 @@ use Rattle.auth_syntax.specs.Grammar.{Written, arms_tokens}
 use Rattle.auth_syntax.specs.Trees.{ArmSyntax, arms_in_a_row}
 use Rattle.printed_syntax.specs.PrintedPrograms.{token_text, is_opening, is_closing, is_applied}
 use Rattle.printed_syntax.specs.declared.printer.TokenKind.{TokenKind}
-use Rattle.printed_syntax.specs.declared.printer.TokenKind.TheVariants.{Opening, Closing, Applied, Other}
+use Rattle.printed_syntax.specs.declared.printer.TokenKind.TheVariants.{Opening, Bracket, Closing, Applied, Other}
 use Rattle.printed_syntax.specs.declared.printer.Printer.{Printer}
 
 -- what a token is to those beside it
 abbrev pub kind_of_token : Token → TokenKind
 kind_of_token token =
-    if is_opening token then Opening else
+    if is_opening token then (if is_closing token then Bracket else Opening) else
     if is_closing token then Closing else
     if is_applied token then Applied else
     Other
@@ -20,6 +20,8 @@ kind_of_token token =
 -- whether a blank stands between two tokens of these kinds
 abbrev pub kinds_apart : TokenKind → TokenKind → Bool
 kinds_apart Opening next = false
+kinds_apart Bracket next = false
+kinds_apart last Bracket = false
 kinds_apart last Closing = false
 kinds_apart Applied Opening = false
 kinds_apart last next = true

@@ -7,7 +7,7 @@ use Rattle.core_terms.specs.Reading.{Good}
 use Rattle.core_terms.specs.Terms.{Program}
 use Rattle.core_terms.specs.Projection.{Fits, read_at}
 use Rattle.lexemes.specs.Tokens.{tokens}
-use Rattle.printed_syntax.specs.Literals.{ConstructorNames, IsValue, FirstFault, literal_in}
+use Rattle.printed_syntax.specs.Literals.{ConstructorNames, IsValue, FirstFault, literal_in, written_in}
 use Rattle.printed_syntax.specs.LiteralRules.{IsWholeLiteral, BreaksWholeLiteral}
 use Rattle.printed_syntax.specs.declared.fault.LiteralKind.{LiteralKind}
 
@@ -26,10 +26,10 @@ LiteralsAreReadBack =
     (P : Program) → P.format.limit < 2 ^ 32 → (names : ConstructorNames) (t : Ty) (text : List ℕ) (v : Value) → literal_in P names t text ≡ IsValue v
     → IsLiteralValue P t v
 
--- A text is a literal exactly where its tokens are one of the type as a whole, for this value; and a fault is told of it exactly where that rule is
--- the first to be broken, at the token with that offset.
+-- A text is a literal exactly where its tokens, those of the format, are one of the type as a whole, for this value; and a fault is told of it
+-- exactly where that rule is the first to be broken, at the token with that offset.
 abbrev pub LiteralsAreByTheirTokens : Type 0
 LiteralsAreByTheirTokens =
     (P : Program) (names : ConstructorNames) (t : Ty) (text : List ℕ)
-    → ((v : Value) → (literal_in P names t text ≡ IsValue v) ↔ IsWholeLiteral P.format.limit P.types names t v (tokens text))
-    × ((kind : LiteralKind) (offset : ℕ) → (literal_in P names t text ≡ FirstFault kind offset) ↔ BreaksWholeLiteral P.format.limit P.types names t (tokens text) kind offset)
+    → ((v : Value) → (literal_in P names t text ≡ IsValue v) ↔ IsWholeLiteral P.format.limit P.types names t v (tokens (written_in P.format) text))
+    × ((kind : LiteralKind) (offset : ℕ) → (literal_in P names t text ≡ FirstFault kind offset) ↔ BreaksWholeLiteral P.format.limit P.types names t (tokens (written_in P.format) text) kind offset)

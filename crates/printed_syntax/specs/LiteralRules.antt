@@ -1,13 +1,13 @@
 -- Which tokens are a literal of a type, and what is broken first where they are none: rules on the tokens, by one clause for each form of a type.
 use Rattle.std.specs.Prelude.{◌≡◌, ◌⊎◌, ◌<◌, ◌≤◌, ℕ, zero, suc, List, [], ◌∷◌, Some, slice_get}
-use Rattle.core_terms.specs.Types.{Ty, UnitTy, BoolTy, IntTy, TextTy, PairTy, NamedTy, Table, fields_at}
+use Rattle.core_terms.specs.Types.{Ty, UnitTy, BoolTy, IntTy, TextTy, PairTy, NamedTy, VecTy, Table, fields_at, item_types}
 use Rattle.core_terms.specs.Formats.{depth_limit}
-use Rattle.core_terms.specs.Values.{Value, UnitV, BoolV, IntV, TextV, PairV, ConV, Values, NoV, AndV, size}
+use Rattle.core_terms.specs.Values.{Value, UnitV, BoolV, IntV, TextV, PairV, ConV, ItemsV, Values, NoV, AndV, size}
 use Rattle.auth_syntax.specs.Grammar.{bool_word}
 use Rattle.lexemes.specs.Tokens.{Token, KeywordToken, MarkToken, UpperToken, IntToken, TextToken, Tokens, Next, End, Faulty}
 use Rattle.lexemes.specs.declared.place.Place.{Place}
 use Rattle.lexemes.specs.declared.token.Mark.{Mark}
-use Rattle.lexemes.specs.declared.token.Mark.TheVariants.{LeftParenthesis, RightParenthesis, Comma}
+use Rattle.lexemes.specs.declared.token.Mark.TheVariants.{LeftParenthesis, RightParenthesis, Comma, LeftBracket, RightBracket}
 use Rattle.printed_syntax.specs.Literals.{ConstructorNames}
 use Rattle.printed_syntax.specs.declared.fault.LiteralKind.{LiteralKind}
 use Rattle.printed_syntax.specs.declared.fault.LiteralKind.TheVariants.{Lexical, Mismatch, TooDeep, TooBig}
@@ -38,14 +38,23 @@ unit_parts = TheMark LeftParenthesis ∷ TheMark RightParenthesis ∷ []
 abbrev pub pair_parts : (a b : Ty) → List Part
 pair_parts a b = TheMark LeftParenthesis ∷ ValueOf a ∷ TheMark Comma ∷ ValueOf b ∷ TheMark RightParenthesis ∷ []
 
-abbrev pub later_field_parts : List Ty → List Part
-later_field_parts [] = TheMark RightParenthesis ∷ []
-later_field_parts (t ∷ ts) = TheMark Comma ∷ ValueOf t ∷ later_field_parts ts
+-- values of these types with commas between them, and the mark that ends them; behind a first one, and from the first on
+abbrev pub more_parts : Mark → List Ty → List Part
+more_parts ending [] = TheMark ending ∷ []
+more_parts ending (t ∷ ts) = TheMark Comma ∷ ValueOf t ∷ more_parts ending ts
+
+abbrev pub parts_up_to : Mark → List Ty → List Part
+parts_up_to ending [] = TheMark ending ∷ []
+parts_up_to ending (t ∷ ts) = ValueOf t ∷ more_parts ending ts
 
 -- fields stand in parentheses; where there are none, nothing does
 abbrev pub field_parts : List Ty → List Part
 field_parts [] = []
-field_parts (t ∷ ts) = TheMark LeftParenthesis ∷ ValueOf t ∷ later_field_parts ts
+field_parts (t ∷ ts) = TheMark LeftParenthesis ∷ parts_up_to RightParenthesis (t ∷ ts)
+
+-- the elements of an array stand in brackets
+abbrev pub array_parts : ℕ → Ty → List Part
+array_parts n t = TheMark LeftBracket ∷ parts_up_to RightBracket (item_types n t)
 
 module _ (IsValueAt : Ty → Value → (before behind : Tokens) → Type 0) where
   -- these parts stand there one behind the other, with these values, and these tokens remain
@@ -83,8 +92,7 @@ module _ (types : Table) (names : ConstructorNames) where
   IsConstructorAt number tag ts before behind =
       (name : List ℕ) × IsTokenAt (UpperToken name) before behind × IsFirstName (names number) name tag × (fields_at types number tag ≡ Some ts)
 
-  -- A literal of a type stands there, for this value, and these tokens remain; it has so many levels at most. An authenticated value has none,
-  -- and neither has an array.
+  -- A literal of a type stands there, for this value, and these tokens remain; it has so many levels at most. An authenticated value has none.
   abbrev pub IsLiteral : (levels : ℕ) → Ty → Value → (before after : Tokens) → Type 0
   IsLiteral zero t v before after = ⊥
   IsLiteral (suc levels) UnitTy UnitV before after = ArePartsAt (IsLiteral levels) unit_parts NoV before after
@@ -94,6 +102,7 @@ module _ (types : Table) (names : ConstructorNames) where
   IsLiteral (suc levels) (PairTy a b) (PairV x y) before after = ArePartsAt (IsLiteral levels) (pair_parts a b) (AndV x (AndV y NoV)) before after
   IsLiteral (suc levels) (NamedTy number) (ConV tag vs) before after =
       (ts : List Ty) × (behind : Tokens) × IsConstructorAt number tag ts before behind × ArePartsAt (IsLiteral levels) (field_parts ts) vs behind after
+  IsLiteral (suc levels) (VecTy n t) (ItemsV vs) before after = ArePartsAt (IsLiteral levels) (array_parts n t) vs before after
   IsLiteral levels t v before after = ⊥
 
   -- no constructor of the named type stands at the head
@@ -110,6 +119,7 @@ module _ (types : Table) (names : ConstructorNames) where
       (IsNoConstructor number before × IsUnfit before kind offset)
       ⊎ ((tag : ℕ) × (ts : List Ty) × (behind : Tokens) × IsConstructorAt number tag ts before behind
       × OnePartBreaks (IsLiteral levels) (BreaksLiteral levels) (field_parts ts) behind kind offset)
+  BreaksLiteral (suc levels) (VecTy n t) before kind offset = OnePartBreaks (IsLiteral levels) (BreaksLiteral levels) (array_parts n t) before kind offset
   BreaksLiteral (suc levels) t before kind offset = ((v : Value) (after : Tokens) → IsLiteral (suc levels) t v before after → ⊥) × IsUnfit before kind offset
 
 module _ (limit : ℕ) (types : Table) (names : ConstructorNames) (t : Ty) where

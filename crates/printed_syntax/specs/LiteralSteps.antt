@@ -1,15 +1,17 @@
 -- What the code's answers on the way through a literal say of the definition. Where memory ran out nothing is said.
-use Rattle.std.specs.Prelude.{◌≡◌, ◌++◌, true, false, List, length, nat_le, Result, Ok, Err, ⊤, ℕ, Vec}
+use Rattle.std.specs.Prelude.{◌≡◌, ◌++◌, true, false, List, length, nat_le, Result, Ok, Err, ⊤, ℕ, zero, suc, Vec}
 use Rattle.std.specs.declared.alloc.Global.{Global}
 use Rattle.core_terms.specs.Types.{Ty}
-use Rattle.core_terms.specs.Values.{Value, size}
+use Rattle.core_terms.specs.Values.{Value, Values, size}
 use Rattle.core_terms.specs.Spelling.{spelling}
 use Rattle.core_terms.specs.Terms as tree
 use Rattle.core_terms.specs.Programs.{constructor_names, meaning}
 use Rattle.core_terms.specs.declared.program.Program.{Program}
 use Rattle.core_terms.specs.declared.byte_string.ByteString.{ByteString as Spelling}
+use Rattle.lexemes.specs.declared.token.Mark.{Mark}
+use Rattle.lexemes.specs.declared.token.Mark.TheVariants.{Comma}
 use Rattle.lexemes.specs.Tokens.{Tokens}
-use Rattle.printed_syntax.specs.Literals.{ConstructorNames, LiteralReading, Means, FaultAt, FirstFault, literal_in, literal_of, value_within}
+use Rattle.printed_syntax.specs.Literals.{ConstructorNames, LiteralReading, Means, FaultAt, FirstFault, behind_mark, more_values, values_up_to, literal_in, literal_of, value_within}
 use Rattle.lexemes.specs.declared.fault.SyntaxKind.{SyntaxKind}
 use Rattle.lexemes.specs.declared.fault.SyntaxKind.TheVariants as syntax
 use Rattle.lexemes.specs.Readings.{SyntaxFault}
@@ -43,6 +45,16 @@ spelled spell before (FaultAt kind offset) = FaultAt kind offset
 -- a literal of a type of a program of the code, on a level with so many levels from there on
 abbrev pub literal_on : Program → ℕ → Ty → Tokens → LiteralReading Value
 literal_on program = literal_of (meaning program).types (constructor_names program.types.named.items)
+
+-- what stands before a value with a number in a row: a comma, where it isn't the first
+abbrev pub behind_comma : ℕ → Tokens → LiteralReading (Unit {0})
+behind_comma zero tokens = Means tt tokens
+behind_comma (suc index) tokens = behind_mark Comma tokens
+
+-- values in a row from this number on, and the mark that ends them
+abbrev pub values_from : ℕ → Mark → (Ty → Tokens → LiteralReading Value) → List Ty → Tokens → LiteralReading Values
+values_from zero ending one ts tokens = values_up_to ending one ts tokens
+values_from (suc index) ending one ts tokens = more_values ending one ts tokens
 
 -- Ok gives the spelling of the value of the whole text, which may still be too long; a refusal gives the first fault
 abbrev pub ReadsWhole : tree.Program → ConstructorNames → Ty → List ℕ → Result (Vec ℕ Global) SyntaxFault → Type 0

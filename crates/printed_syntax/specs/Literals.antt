@@ -1,14 +1,17 @@
--- Literals: values of a type, as they are written, with the tokens of programs.
+-- Literals: values of a type, as they are written, with the tokens of programs of the same format.
 use Rattle.std.specs.Prelude.{ℕ, zero, suc, true, false, List, [], ◌∷◌, Option, Some, None, bytes_eq, option_map, nat_le, if◌then◌else◌}
-use Rattle.core_terms.specs.Types.{Ty, UnitTy, BoolTy, IntTy, TextTy, PairTy, NamedTy, AuthTy, VecTy, Table, fields_at}
+use Rattle.core_terms.specs.Types.{Ty, UnitTy, BoolTy, IntTy, TextTy, PairTy, NamedTy, AuthTy, VecTy, Table, fields_at, item_types}
 use Rattle.core_terms.specs.Formats.{depth_limit}
-use Rattle.core_terms.specs.Values.{Value, UnitV, BoolV, IntV, TextV, PairV, ConV, Values, NoV, AndV, size}
+use Rattle.core_terms.specs.Formats as meant
+use Rattle.core_terms.specs.Values.{Value, UnitV, BoolV, IntV, TextV, PairV, ConV, ItemsV, Values, NoV, AndV, size}
+use Rattle.core_terms.specs.declared.format.Format.{Format}
+use Rattle.core_terms.specs.declared.format.Format.TheVariants.{First, Second}
 use Rattle.core_terms.specs.Terms.{Program}
 use Rattle.lexemes.specs.Tokens.{KeywordToken, MarkToken, UpperToken, IntToken, TextToken, Tokens, Next, End, Faulty, tokens}
 use Rattle.lexemes.specs.Readings.{is_mark}
 use Rattle.lexemes.specs.declared.token.Keyword.TheVariants.{True as TrueWord, False as FalseWord}
 use Rattle.lexemes.specs.declared.token.Mark.{Mark}
-use Rattle.lexemes.specs.declared.token.Mark.TheVariants.{LeftParenthesis, RightParenthesis, Comma}
+use Rattle.lexemes.specs.declared.token.Mark.TheVariants.{LeftParenthesis, RightParenthesis, Comma, LeftBracket, RightBracket}
 use Rattle.printed_syntax.specs.declared.fault.LiteralKind.{LiteralKind}
 use Rattle.printed_syntax.specs.declared.fault.LiteralKind.TheVariants.{Lexical, Mismatch, TooDeep, TooBig}
 
@@ -70,21 +73,32 @@ pair_literal first second tokens =
     then_means (second tokens) (λ b tokens.
     then_means (behind_mark RightParenthesis tokens) (λ _ tokens. Means (PairV a b) tokens)))))
 
--- literals of these types, each behind a comma, and the parenthesis that ends them
-abbrev pub more_fields : (Ty → Tokens → LiteralReading Value) → List Ty → Tokens → LiteralReading Values
-more_fields one [] tokens = then_means (behind_mark RightParenthesis tokens) (λ _ tokens. Means NoV tokens)
-more_fields one (t ∷ ts) tokens =
+-- literals of these types, each behind a comma, and the mark that ends them
+abbrev pub more_values : Mark → (Ty → Tokens → LiteralReading Value) → List Ty → Tokens → LiteralReading Values
+more_values ending one [] tokens = then_means (behind_mark ending tokens) (λ _ tokens. Means NoV tokens)
+more_values ending one (t ∷ ts) tokens =
     then_means (behind_mark Comma tokens) (λ _ tokens.
     then_means (one t tokens) (λ v tokens.
-    then_means (more_fields one ts tokens) (λ vs tokens. Means (AndV v vs) tokens)))
+    then_means (more_values ending one ts tokens) (λ vs tokens. Means (AndV v vs) tokens)))
+
+-- the same, with no comma before the first
+abbrev pub values_up_to : Mark → (Ty → Tokens → LiteralReading Value) → List Ty → Tokens → LiteralReading Values
+values_up_to ending one [] tokens = then_means (behind_mark ending tokens) (λ _ tokens. Means NoV tokens)
+values_up_to ending one (t ∷ ts) tokens =
+    then_means (one t tokens) (λ v tokens.
+    then_means (more_values ending one ts tokens) (λ vs tokens. Means (AndV v vs) tokens))
 
 -- the fields of a constructor: in parentheses, or nothing where it has none
 abbrev pub fields_literal : (Ty → Tokens → LiteralReading Value) → List Ty → Tokens → LiteralReading Values
 fields_literal one [] tokens = Means NoV tokens
 fields_literal one (t ∷ ts) tokens =
-    then_means (behind_mark LeftParenthesis tokens) (λ _ tokens.
-    then_means (one t tokens) (λ v tokens.
-    then_means (more_fields one ts tokens) (λ vs tokens. Means (AndV v vs) tokens)))
+    then_means (behind_mark LeftParenthesis tokens) (λ _ tokens. values_up_to RightParenthesis one (t ∷ ts) tokens)
+
+-- so many literals of a type, as an array: in brackets
+abbrev pub array_literal : (Ty → Tokens → LiteralReading Value) → ℕ → Ty → Tokens → LiteralReading Value
+array_literal one n t tokens =
+    then_means (behind_mark LeftBracket tokens) (λ _ tokens.
+    then_means (values_up_to RightBracket one (item_types n t) tokens) (λ vs tokens. Means (ItemsV vs) tokens))
 
 -- the place of a name among names
 abbrev pub number_of_name : List (List ℕ) → List ℕ → Option ℕ
@@ -106,8 +120,7 @@ module _ (types : Table) (names : ConstructorNames) where
       constructor_named one at.offset number (number_of_name (names number) name) rest
   constructor_literal one number tokens = mismatch tokens
 
-  -- a literal of a type, on a level with so many levels from there on; an authenticated value has none, and neither has an array, as long as the
-  -- language has no brackets
+  -- a literal of a type, on a level with so many levels from there on; an authenticated value has none
   abbrev pub literal_of : ℕ → Ty → Tokens → LiteralReading Value
   literal_of zero t tokens = too_deep tokens
   literal_of (suc levels) UnitTy tokens = unit_literal tokens
@@ -117,7 +130,7 @@ module _ (types : Table) (names : ConstructorNames) where
   literal_of (suc levels) (PairTy a b) tokens = pair_literal (literal_of levels a) (literal_of levels b) tokens
   literal_of (suc levels) (NamedTy number) tokens = constructor_literal (literal_of levels) number tokens
   literal_of (suc levels) (AuthTy t) tokens = mismatch tokens
-  literal_of (suc levels) (VecTy n t) tokens = mismatch tokens
+  literal_of (suc levels) (VecTy n t) tokens = array_literal (literal_of levels) n t tokens
 
 -- what a text gives as a literal: its value, or its first fault with its offset
 pub data Literal : Type 0 where
@@ -139,6 +152,10 @@ module _ (limit : ℕ) (types : Table) where
   whole_literal t (Means v rest) = at_end rest (value_within t v)
   whole_literal t (FaultAt kind offset) = FirstFault kind offset
 
+-- the format by whose tokens literals are written: the second, which has brackets, where programs may have arrays
+abbrev pub written_in : meant.Format → Format
+written_in format = if format.arrays then Second else First
+
 -- a text as a literal of a type of a program, whose constructors have these names
 abbrev pub literal_in : Program → ConstructorNames → Ty → List ℕ → Literal
-literal_in P names t text = whole_literal P.format.limit P.types t (literal_of P.types names depth_limit t (tokens text))
+literal_in P names t text = whole_literal P.format.limit P.types t (literal_of P.types names depth_limit t (tokens (written_in P.format) text))

@@ -3,10 +3,17 @@ use Rattle.std.specs.Prelude.{◌≡◌, ℕ, ◌≤◌, Bool, true, List, [], �
 use Rattle.std.specs.List.{list_all}
 use Rattle.std.specs.Char.{is_ascii_lowercase, is_ascii_uppercase}
 use Rattle.std.specs.Str.{IsUtf8}
+use Rattle.core_terms.specs.ProgramFormats.{arrays_of}
 use Rattle.core_terms.specs.Values.{int_fits}
+use Rattle.core_terms.specs.declared.format.Format.{Format}
+use Rattle.lexemes.specs.declared.token.Keyword.{Keyword}
+use Rattle.lexemes.specs.declared.token.Keyword.TheVariants.{Vec as VecWord, VecFill as VecFillWord, VecGet as VecGetWord, VecPut as VecPutWord}
+use Rattle.lexemes.specs.declared.token.Mark.{Mark}
+use Rattle.lexemes.specs.declared.token.Mark.TheVariants.{LeftBracket, RightBracket}
 use Rattle.lexemes.specs.Tokens.{Token, KeywordToken, MarkToken, LowerToken, UpperToken, IntToken, TextToken, is_name_byte, keyword_of, name_limit, text_limit}
 use Rattle.auth_syntax.specs.Syntax.{Program}
-use Rattle.auth_syntax.specs.Grammar.{Written, declarations_tokens, nesting_limit, AreDeclarations, IsProgramText}
+use Rattle.auth_syntax.specs.ProgramTokens.{format_or_first}
+use Rattle.auth_syntax.specs.Grammar.{Written, program_tokens, nesting_limit, AreDeclarations, IsProgramText}
 use Rattle.auth_syntax.specs.Parsing.{parsed, Tree}
 use Rattle.printed_syntax.specs.PrintedPrograms.{program_text}
 use Rattle.printed_syntax.specs.WithoutPlaces.{without_places}
@@ -16,22 +23,37 @@ abbrev pub IsName : (ℕ → Bool) → List ℕ → Type 0
 IsName is_first [] = ⊥
 IsName is_first (b ∷ rest) = (is_first b ≡ true) × (list_all is_name_byte (b ∷ rest) ≡ true) × (length (b ∷ rest) ≤ name_limit)
 
--- A token that a text can have: a lower name is no keyword, an int is from -2^63 to 2^63 - 1, and a text is UTF-8 of at most 65,532 bytes.
-abbrev pub IsToken : Token → Type 0
-IsToken (KeywordToken keyword) = Unit {0}
-IsToken (MarkToken mark) = Unit {0}
-IsToken (LowerToken name) = IsName is_ascii_lowercase name × (keyword_of name ≡ None)
-IsToken (UpperToken name) = IsName is_ascii_uppercase name
-IsToken (IntToken z) = int_fits z ≡ true
-IsToken (TextToken bytes) = IsUtf8 bytes × (length bytes ≤ text_limit)
+-- the keywords and the marks that a format has: those of arrays are of the second alone
+abbrev pub has_keyword : Format → Keyword → Bool
+has_keyword format VecWord = arrays_of format
+has_keyword format VecFillWord = arrays_of format
+has_keyword format VecGetWord = arrays_of format
+has_keyword format VecPutWord = arrays_of format
+has_keyword format keyword = true
 
-abbrev pub AreTokens : List Written → Type 0
-AreTokens [] = Unit {0}
-AreTokens (written ∷ rest) = IsToken written.token × AreTokens rest
+abbrev pub has_mark : Format → Mark → Bool
+has_mark format LeftBracket = arrays_of format
+has_mark format RightBracket = arrays_of format
+has_mark format mark = true
 
--- A program that a text can have: its names, ints and texts are those of tokens, and it is well-formed.
+module _ (format : Format) where
+  -- A token that a text of the format can have: a keyword and a mark are the format's, a lower name is no keyword of it, an int is from -2^63
+  -- to 2^63 - 1, and a text is UTF-8 of at most 65,532 bytes.
+  abbrev pub IsToken : Token → Type 0
+  IsToken (KeywordToken keyword) = has_keyword format keyword ≡ true
+  IsToken (MarkToken mark) = has_mark format mark ≡ true
+  IsToken (LowerToken name) = IsName is_ascii_lowercase name × (keyword_of format name ≡ None)
+  IsToken (UpperToken name) = IsName is_ascii_uppercase name
+  IsToken (IntToken z) = int_fits z ≡ true
+  IsToken (TextToken bytes) = IsUtf8 bytes × (length bytes ≤ text_limit)
+
+  abbrev pub AreTokens : List Written → Type 0
+  AreTokens [] = Unit {0}
+  AreTokens (written ∷ rest) = IsToken written.token × AreTokens rest
+
+-- A program that a text can have: its words, marks, names, ints and texts are those of tokens of its format, and it is well-formed.
 pub record CanBeWritten (program : Program) : Type 0 where
-  pub tokens : AreTokens (declarations_tokens program.declarations)
+  pub tokens : AreTokens (format_or_first program.format) (program_tokens program.format program.declarations)
   pub well_formed : AreDeclarations nesting_limit program.declarations
 
 -- A text of a program that is equal to this one but for places, and that is printed alike.

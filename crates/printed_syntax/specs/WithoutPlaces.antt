@@ -1,7 +1,7 @@
 -- Trees without their places: each place is that of a text's first byte. Two trees are equal but for places where they are equal so.
 use Rattle.std.specs.Prelude.{map}
 use Rattle.lexemes.specs.Places.{start}
-use Rattle.auth_syntax.specs.Syntax.{NameSyntax, TypeSyntax, UnitTypeSyntax, BoolTypeSyntax, IntTypeSyntax, TextTypeSyntax, NamedTypeSyntax, AuthTypeSyntax, PairTypeSyntax, ExpSyntax, UnitSyntax, BoolSyntax, IntSyntax, TextSyntax, LocalSyntax, PairSyntax, UnarySyntax, BinarySyntax, CallSyntax, ConstructorSyntax, LetSyntax, IfSyntax, MatchSyntax, ExpsSyntax, NoExp, AndExp, ArmsSyntax, NoArmSyntax, AndArmSyntax, ParameterSyntax, FunctionSyntax, ConstructorDeclaration, DeclarationSyntax, TypeDeclaration, StateDeclaration, FunctionDeclaration, Program}
+use Rattle.auth_syntax.specs.Syntax.{NameSyntax, TypeSyntax, UnitTypeSyntax, BoolTypeSyntax, IntTypeSyntax, TextTypeSyntax, NamedTypeSyntax, AuthTypeSyntax, PairTypeSyntax, VecTypeSyntax, ExpSyntax, UnitSyntax, BoolSyntax, IntSyntax, TextSyntax, LocalSyntax, PairSyntax, UnarySyntax, BinarySyntax, CallSyntax, ConstructorSyntax, OperateSyntax, LetSyntax, IfSyntax, MatchSyntax, ExpsSyntax, NoExp, AndExp, ArmsSyntax, NoArmSyntax, AndArmSyntax, ParameterSyntax, FunctionSyntax, ConstructorDeclaration, DeclarationSyntax, TypeDeclaration, StateDeclaration, FunctionDeclaration, Program}
 
 -- a name, a type
 abbrev pub name_without_place : NameSyntax → NameSyntax
@@ -15,6 +15,7 @@ type_without_places (TextTypeSyntax at) = TextTypeSyntax start
 type_without_places (NamedTypeSyntax at name) = NamedTypeSyntax start name
 type_without_places (AuthTypeSyntax at inner) = AuthTypeSyntax start (type_without_places inner)
 type_without_places (PairTypeSyntax at first second) = PairTypeSyntax start (type_without_places first) (type_without_places second)
+type_without_places (VecTypeSyntax at n item) = VecTypeSyntax start n (type_without_places item)
 
 abbrev mutual
   -- an expression, expressions in a row, and the arms of a match
@@ -30,6 +31,7 @@ abbrev mutual
       BinarySyntax start operation (expression_without_places first) (expression_without_places second)
   expression_without_places (CallSyntax at name operands) = CallSyntax start name (expressions_without_places operands)
   expression_without_places (ConstructorSyntax at name operands) = ConstructorSyntax start name (expressions_without_places operands)
+  expression_without_places (OperateSyntax at operation operands) = OperateSyntax start operation (expressions_without_places operands)
   expression_without_places (LetSyntax at name bound body) =
       LetSyntax start (name_without_place name) (expression_without_places bound) (expression_without_places body)
   expression_without_places (IfSyntax at test first other) =
@@ -68,4 +70,8 @@ declaration_without_places (FunctionDeclaration at function) = FunctionDeclarati
 
 -- a program
 abbrev pub without_places : Program → Program
-without_places program = record { declarations = map declaration_without_places program.declarations; end = start }
+without_places program = record {
+  format = program.format;
+  declarations = map declaration_without_places program.declarations;
+  end = start;
+}

@@ -7,7 +7,8 @@ ghost use Rattle.core_terms.specs.Programs.{constructor_names, meaning, types_of
 ghost use Rattle.core_terms.specs.ProgramTrees.{types_at};
 ghost use Rattle.core_terms.specs.Spelling.{spelling, spellings};
 ghost use Rattle.core_terms.specs.TypeTables.{type_at};
-ghost use Rattle.printed_syntax.specs.Literals.{constructor_literal, fields_literal, literal_in, literal_of, more_fields, pair_literal};
+ghost use Rattle.lexemes.specs.declared.token.Mark.TheVariants.{RightParenthesis};
+ghost use Rattle.printed_syntax.specs.Literals.{array_literal, constructor_literal, fields_literal, literal_in, literal_of, more_values, pair_literal};
 ghost use Rattle.printed_syntax.specs.LiteralAnswers.{ReadsLiteral};
 ghost use Rattle.printed_syntax.specs.LiteralSteps.{ReadsPart, ReadsWhole, literal_on, spelled};
 ghost use Rattle.lexemes.specs.Remaining.{remaining};
@@ -17,14 +18,14 @@ use core_terms::{NamedId, Program, Spelling, TyForm, TyId};
 use lexemes::fault::{SyntaxFault, SyntaxKind};
 use lexemes::parser::{Parser, PlacedToken};
 use lexemes::token::{Mark, Token};
-use parts::{bool, int, mark, no_level, no_value, text, told, unit, within};
+use parts::{bool, comma, int, mark, no_level, no_value, text, told, unit, within};
 use std::alloc::Global;
 
 /// How many levels a value may have. Reading a part calls itself once for each level, so this bounds the stack too.
 const DEPTH_LIMIT: usize = 512;
 
-/// Reads the text of a literal of a type of the program, and gives the spelling of its value. An authenticated value has no literal, and
-/// neither has an array.
+/// Reads the text of a literal of a type of the program, by the tokens of the program's format, and gives the spelling of its value. An
+/// authenticated value has no literal.
 ///
 /// # Errors
 ///
@@ -50,7 +51,7 @@ pub fn parse_literal(
 fn whole(alloc: Global, program: &Program, ty: TyId, written: &[u8]) -> Result<Vec<u8>, SyntaxFault>
     ensures { ReadsWhole (meaning program.now) (constructor_names program.now.types.named.items) (type_at (types_of program.now) ty) written.now result }
 {
-    let mut parser = Parser::new(alloc, written);
+    let mut parser = Parser::new(alloc, program.format(), written);
     let mut bytes = Vec::new(alloc);
     value(&mut parser, program, ty, DEPTH_LIMIT, &mut bytes)?;
     parser.end()?;
@@ -76,8 +77,7 @@ fn value(
         TyForm::BoolForm => bool(parser, bytes),
         TyForm::IntForm => int(parser, bytes),
         TyForm::TextForm => text(parser, bytes),
-        // The language has no brackets to write an array with.
-        TyForm::AuthForm(_) | TyForm::VecForm(_, _) => no_value(parser),
+        TyForm::AuthForm(_) => no_value(parser),
         TyForm::PairForm(first, second) => pair(
             parser,
             program,
@@ -86,6 +86,7 @@ fn value(
             bytes,
         ),
         TyForm::NamedForm(named) => constructor(parser, program, named, levels - 1, bytes),
+        TyForm::VecForm(count, item) => array(parser, program, count, item, levels - 1, bytes),
     }
 }
 
@@ -157,11 +158,31 @@ fn other_fields(
     levels: usize,
     bytes: &mut Vec<u8>,
 ) -> Result<(), SyntaxFault>
-    ensures { ReadsPart (λ _. bytes.new.items) (spelled spellings bytes.old.items (more_fields (literal_on program.now levels) (types_at (types_of program.now) types.now) (remaining parser.old))) result (remaining parser.new) }
+    ensures { ReadsPart (λ _. bytes.new.items) (spelled spellings bytes.old.items (more_values RightParenthesis (literal_on program.now levels) (types_at (types_of program.now) types.now) (remaining parser.old))) result (remaining parser.new) }
 {
     for ty in types {
         mark(parser, Mark::Comma)?;
         value(parser, program, *ty, levels, bytes)?;
     }
     mark(parser, Mark::RightParenthesis)
+}
+
+/// An array of so many values of a type, each of at most so many levels.
+#[cycle(value)]
+fn array(
+    parser: &mut Parser<'_>,
+    program: &Program,
+    count: u8,
+    item: TyId,
+    levels: usize,
+    bytes: &mut Vec<u8>,
+) -> Result<(), SyntaxFault>
+    ensures { ReadsPart (λ _. bytes.new.items) (spelled spelling bytes.old.items (array_literal (literal_on program.now levels) count (type_at (types_of program.now) item) (remaining parser.old))) result (remaining parser.new) }
+{
+    mark(parser, Mark::LeftBracket)?;
+    for index in 0..count {
+        comma(parser, index)?;
+        value(parser, program, item, levels, bytes)?;
+    }
+    mark(parser, Mark::RightBracket)
 }

@@ -1,27 +1,27 @@
 // Programs as they are printed.
 
-ghost use Rattle.std.specs.Prelude.{◌≡◌, ◌∷◌, [], map, IfOk, OnOk};
+ghost use Rattle.std.specs.Prelude.{◌≡◌, ◌∷◌, ◌++◌, [], map, Some, IfOk, OnOk};
 ghost use Rattle.lexemes.specs.Places.{start};
-ghost use Rattle.auth_syntax.specs.Syntax.{BinarySyntax, CallSyntax, FunctionDeclaration, IfSyntax, LetSyntax, MatchSyntax, PairSyntax, StateDeclaration, UnarySyntax};
-ghost use Rattle.auth_syntax.specs.Grammar.{arms_tokens, constructor_tokens, constructors_tokens, declaration_tokens, expression_tokens, expressions_tokens, in_parentheses, kind_keyword, lower, names_tokens, parameter_tokens, parameters_tokens, type_tokens, types_tokens, unary_word, upper};
+ghost use Rattle.auth_syntax.specs.Syntax.{BinarySyntax, CallSyntax, FunctionDeclaration, IfSyntax, LetSyntax, MatchSyntax, OperateSyntax, PairSyntax, StateDeclaration, UnarySyntax, VecTypeSyntax};
+ghost use Rattle.auth_syntax.specs.Grammar.{arms_tokens, array_word, brackets, constructor_tokens, constructors_tokens, declaration_tokens, expression_tokens, expressions_tokens, format_number, format_tokens, in_parentheses, kind_keyword, length_tokens, lower, names_tokens, parameter_tokens, parameters_tokens, type_tokens, types_tokens, unary_word, upper};
 ghost use Rattle.auth_syntax.specs.Parsing.{in_a_row};
 ghost use Rattle.printed_syntax.specs.PrintedPrograms.{program_text};
 ghost use Rattle.printed_syntax.specs.LineViews.{arm_tokens, line_of, separated, with_tokens};
-ghost use Rattle.auth_syntax.specs.Trees.{arm_of, arms_in_a_row, constructor_of, declaration_of, expression_of, function_of, kind_of, name_of, parameter_of, program_of, type_declaration_of, type_of, unary_of};
+ghost use Rattle.auth_syntax.specs.Trees.{arm_of, arms_in_a_row, array_of, constructor_of, declaration_of, expression_of, function_of, kind_of, name_of, parameter_of, program_of, type_declaration_of, type_of, unary_of};
 
 use crate::printer::Printer;
 use auth_syntax::tree::{
-    Arm, Ast, ConstructorDeclaration, Declaration, ExpTree, Function, FunctionKind, Parameter,
-    PlacedName, TypeDeclaration, TypeTree, UnaryOperator,
+    Arm, ArrayOperator, Ast, ConstructorDeclaration, Declaration, ExpTree, Function, FunctionKind,
+    Parameter, PlacedName, TypeDeclaration, TypeTree, UnaryOperator,
 };
-use core_terms::{BinaryOperator, Name};
+use core_terms::{BinaryOperator, Format, Name};
 use lexemes::token::{Keyword, Mark};
 use std::alloc::{AllocError, Global};
 
-/// The text of a program: each declaration on a line of its own, which 0a ends. Between two tokens of a line stands one blank, but none
-/// behind `(`, none before `)` `,` `;` `:`, and none before a `(` behind a name or the word of an operation. The text of a program that
-/// `parse` gave is that of a program which is equal but for places (`laws::parsed_is_read_back`); so `parse` gives one from it, where
-/// it has at most 262,144 bytes.
+/// The text of a program: its format, where it tells one, and each declaration on a line of its own, which 0a ends. Between two tokens of
+/// a line stands one blank, but none behind `(` `[`, none before `)` `,` `;` `:` `[` `]`, and none before a `(` behind a name or the word of
+/// an operation on one operand or two. The text of a program that `parse` gave is that of a program which is equal but for places
+/// (`laws::parsed_is_read_back`); so `parse` gives one from it, where it has at most 262,144 bytes.
 ///
 /// # Errors
 ///
@@ -30,6 +30,10 @@ pub fn print(alloc: Global, ast: &Ast) -> Result<Vec<u8>, AllocError>
     ensures { IfOk result (λ text. text.items ≡ program_text (program_of ast.now)) }
 {
     let mut printer = Printer::new(alloc);
+    if let Some(format) = ast.format {
+        printer.format(format)?;
+        printer.end_line()?;
+    }
     for declaration in &ast.declarations {
         printer.declaration(declaration)?;
         printer.end_line()?;
@@ -38,6 +42,15 @@ pub fn print(alloc: Global, ast: &Ast) -> Result<Vec<u8>, AllocError>
 }
 
 impl Printer {
+    /// Adds a format, behind the word that tells it.
+    fn format(&mut self, format: Format) -> Result<(), AllocError>
+        ensures { OnOk result (line_of self.new ≡ with_tokens (line_of self.old) (format_tokens (Some format))) }
+    {
+        self.name(b"format")?;
+        self.int(format_number(format))?;
+        self.mark(Mark::Semicolon)
+    }
+
     /// Adds a declaration.
     fn declaration(&mut self, declaration: &Declaration) -> Result<(), AllocError>
         ensures { OnOk result (line_of self.new ≡ with_tokens (line_of self.old) (declaration_tokens (declaration_of declaration.now))) }
@@ -151,6 +164,7 @@ impl Printer {
                 self.name(name.as_bytes())?;
                 self.operands(operands)
             }
+            ExpTree::Operate(_, operation, operands) => self.operate(*operation, operands),
             ExpTree::Let {
                 name,
                 bound,
@@ -199,6 +213,19 @@ impl Printer {
         ensures { OnOk result (line_of self.new ≡ with_tokens (line_of self.old) (expression_tokens (CallSyntax start name.now (in_a_row (map expression_of operands.now))))) }
     {
         self.name(name.as_bytes())?;
+        self.mark(Mark::LeftParenthesis)?;
+        self.expressions(operands)?;
+        self.mark(Mark::RightParenthesis)
+    }
+
+    /// Adds an operation on arrays.
+    #[cycle(expressions)]
+    #[tactic(auto, using(crate::proofs::LineLemmas::with_tokens_append))]
+    fn operate(&mut self, operation: ArrayOperator, operands: &[ExpTree]) -> Result<(), AllocError>
+        ensures { OnOk result (line_of self.new ≡ with_tokens (line_of self.old) (expression_tokens (OperateSyntax start (array_of operation) (in_a_row (map expression_of operands.now))))) }
+    {
+        self.word(array_word(operation))?;
+        self.brackets(operation)?;
         self.mark(Mark::LeftParenthesis)?;
         self.expressions(operands)?;
         self.mark(Mark::RightParenthesis)
@@ -380,7 +407,31 @@ impl Printer {
                 self.type_tree(second)?;
                 self.mark(Mark::RightParenthesis)
             }
+            TypeTree::VecType(_, length, item) => {
+                self.word(Keyword::Vec)?;
+                self.length(*length)?;
+                self.type_tree(item)
+            }
         }
+    }
+
+    /// Adds what stands between the word of an operation on arrays and its operands: a length, where it has one.
+    fn brackets(&mut self, operation: ArrayOperator) -> Result<(), AllocError>
+        ensures { OnOk result (line_of self.new ≡ with_tokens (line_of self.old) (brackets (array_of operation))) }
+    {
+        match operation {
+            ArrayOperator::VecFill(length) => self.length(length),
+            ArrayOperator::VecGet | ArrayOperator::VecPut => Ok(()),
+        }
+    }
+
+    /// Adds the length of an array, in brackets.
+    fn length(&mut self, length: u8) -> Result<(), AllocError>
+        ensures { OnOk result (line_of self.new ≡ with_tokens (line_of self.old) (length_tokens length)) }
+    {
+        self.mark(Mark::LeftBracket)?;
+        self.int(i64::from(length))?;
+        self.mark(Mark::RightBracket)
     }
 
     /// Adds a lower name.
@@ -402,6 +453,16 @@ impl Printer {
         ensures { OnOk result (line_of self.new ≡ separated index mark (line_of self.old)) }
     {
         if index == 0 { Ok(()) } else { self.mark(mark) }
+    }
+}
+
+/// The number of a format.
+fn format_number(format: Format) -> i64
+    ensures { result ≡ format_number format }
+{
+    match format {
+        Format::First => 1,
+        Format::Second => 2,
     }
 }
 
@@ -428,5 +489,16 @@ fn unary_word(operation: UnaryOperator) -> Keyword
         UnaryOperator::Unauth => Keyword::Unauth,
         UnaryOperator::Len => Keyword::Len,
         UnaryOperator::Not => Keyword::Not,
+    }
+}
+
+/// The word of an operation on arrays.
+fn array_word(operation: ArrayOperator) -> Keyword
+    ensures { result ≡ array_word (array_of operation) }
+{
+    match operation {
+        ArrayOperator::VecFill(_) => Keyword::VecFill,
+        ArrayOperator::VecGet => Keyword::VecGet,
+        ArrayOperator::VecPut => Keyword::VecPut,
     }
 }

@@ -15,9 +15,11 @@ use std::alloc::{AllocError, Global};
 enum TokenKind {
     /// A `(`: behind it stands no blank.
     Opening,
-    /// One of `)` `,` `;` `:`: before it stands no blank.
+    /// A `[`: neither before nor behind it stands a blank.
+    Bracket,
+    /// One of `)` `,` `;` `:` `]`: before it stands no blank.
     Closing,
-    /// A name, or the word of an operation: between it and a `(` stands no blank.
+    /// A name, or the word of an operation on one operand or two: between it and a `(` stands no blank.
     Applied,
     /// Any other token.
     Other,
@@ -28,8 +30,8 @@ fn are_apart(last: TokenKind, next: TokenKind) -> bool
     ensures { result ≡ kinds_apart last next }
 {
     match (last, next) {
-        (TokenKind::Opening, _)
-        | (_, TokenKind::Closing)
+        (TokenKind::Opening | TokenKind::Bracket, _)
+        | (_, TokenKind::Bracket | TokenKind::Closing)
         | (TokenKind::Applied, TokenKind::Opening) => false,
         _ => true,
     }
@@ -141,6 +143,8 @@ fn mark_text(mark: Mark) -> &'static [u8]
         Mark::EqualsSign => b"=",
         Mark::Bar => b"|",
         Mark::Arrow => b"->",
+        Mark::LeftBracket => b"[",
+        Mark::RightBracket => b"]",
     }
 }
 
@@ -149,7 +153,9 @@ fn mark_kind(mark: Mark) -> TokenKind
 {
     match mark {
         Mark::LeftParenthesis => TokenKind::Opening,
-        Mark::RightParenthesis | Mark::Comma | Mark::Semicolon | Mark::Colon => TokenKind::Closing,
+        Mark::LeftBracket => TokenKind::Bracket,
+        Mark::RightParenthesis | Mark::Comma | Mark::Semicolon | Mark::Colon | Mark::RightBracket =>
+            TokenKind::Closing,
         Mark::EqualsSign | Mark::Bar | Mark::Arrow => TokenKind::Other,
     }
 }

@@ -10,7 +10,7 @@ ghost use Rattle.core_terms.specs.TypeTables.{type_at};
 ghost use Rattle.core_terms.specs.Types.{NamedTy, PairTy, VecTy};
 ghost use Rattle.core_terms.specs.Values.{IsShallow, Value};
 ghost use Rattle.printed_syntax.specs.PrintedParts.{ArePrinted, IsPrinted, comma_before, text_in};
-ghost use Rattle.printed_syntax.specs.PrintedValueLaws.{PrintedValuesAreReadBack};
+ghost use Rattle.printed_syntax.specs.PrintedValueLaws.{FittingTextsAreShort, PrintedValuesAreReadBack};
 
 use crate::printing::leaves::{
     push_spelled_bool, push_spelled_digest, push_spelled_int, push_spelled_text,
@@ -166,7 +166,9 @@ fn push_comma(text: &mut Vec<u8>, index: usize) -> Result<(), AllocError>
     Ok(())
 }
 
-/// The law of printed values: one whose parts all have literals is read back from its text.
+/// The laws of printed values: one whose parts all have literals is read back from its text, where its texts are short enough to stand
+/// between quotes, as they are within the limit of the first format.
 pub fn reading_back()
-    ensures { PrintedValuesAreReadBack }
+    ensures read_back { PrintedValuesAreReadBack }
+    ensures short { FittingTextsAreShort }
 {}

@@ -4,7 +4,7 @@ ghost use Rattle.std.specs.Int.{w32, to_be_bytes};
 ghost use Rattle.core_terms.specs.Spelling.{spelling};
 ghost use Rattle.core_terms.specs.Values.{UnitV};
 ghost use Rattle.printed_syntax.specs.Literals.{behind_mark, bool_literal, int_literal, mismatch, text_literal, too_deep, unit_literal};
-ghost use Rattle.printed_syntax.specs.LiteralSteps.{IsWithinLimit, ReadsPart, spelled, told_of_literal};
+ghost use Rattle.printed_syntax.specs.LiteralSteps.{IsWithinLimit, ReadsPart, behind_comma, spelled, told_of_literal};
 ghost use Rattle.lexemes.specs.Remaining.{remaining};
 
 use crate::fault::{LiteralFault, LiteralKind};
@@ -37,6 +37,16 @@ pub(super) fn mark(parser: &mut Parser<'_>, wanted: Mark) -> Result<(), SyntaxFa
     ensures { ReadsPart (λ _. tt) (behind_mark wanted (remaining parser.old)) result (remaining parser.new) }
 {
     parser.mark(wanted)
+}
+
+/// Takes what stands before a value with a number in a row: a comma, where it isn't the first.
+pub(super) fn comma(parser: &mut Parser<'_>, index: u8) -> Result<(), SyntaxFault>
+    ensures { ReadsPart (λ _. tt) (behind_comma index (remaining parser.old)) result (remaining parser.new) }
+{
+    if index == 0 {
+        return Ok(());
+    }
+    mark(parser, Mark::Comma)
 }
 
 /// A unit, which is spelled by nothing.

@@ -1,19 +1,21 @@
-use Rattle.std.proofs.Common.{◌∙◌, ◌+◌, ℕ, List, Result, Err, ap, sym, subst, drop, slice_index_or, arith}
+use Rattle.std.proofs.Common.{◌≡◌, ◌∙◌, ◌+◌, ◌-◌, ℕ, List, Result, Err, ap, sym, subst, drop, slice_index_or, arith}
+use Rattle.std.proofs.Math.Numerals.{suc-eq-add-one}
 use Rattle.std.proofs.lemmas.List.{drop_all, drop_more}
 use Rattle.std.proofs.lemmas.Result.{err_from_is_err_and}
 use Rattle.core_terms.specs.Programs.{constructor_names, meaning, types_of}
 use Rattle.core_terms.specs.ProgramTrees.{types_at}
 use Rattle.core_terms.specs.Spelling.{spelling, spellings}
 use Rattle.core_terms.specs.TypeTables.{type_at}
-use Rattle.core_terms.specs.Types.{UnitTy, BoolTy, IntTy, TextTy, PairTy, NamedTy}
+use Rattle.core_terms.specs.Types.{UnitTy, BoolTy, IntTy, TextTy, PairTy, NamedTy, AuthTy, VecTy, item_types}
 use Rattle.core_terms.specs.declared.types.TyId.{TyId}
+use Rattle.lexemes.specs.declared.token.Mark.TheVariants.{RightParenthesis, RightBracket}
 use Rattle.lexemes.specs.Readings.{SyntaxFault}
-use Rattle.printed_syntax.specs.Literals.{LiteralReading, constructor_literal, fields_literal, mismatch, more_fields, unit_literal}
-use Rattle.printed_syntax.specs.LiteralSteps.{ReadsPart, literal_on, spelled}
+use Rattle.printed_syntax.specs.Literals.{LiteralReading, array_literal, constructor_literal, fields_literal, mismatch, more_values, unit_literal}
+use Rattle.printed_syntax.specs.LiteralSteps.{ReadsPart, literal_on, spelled, values_from}
 use Rattle.lexemes.specs.Remaining.{remaining}
 use Rattle.lexemes.specs.TokenViews.{token_view}
 use Rattle.lexemes.specs.Tokens.{Next, UpperToken}
-use Rattle.printed_syntax.proofs.LiteralSpellings.{at_level, at_no_literal, constructor_spelled, no_constructor_spelled, fields_read, last_read, more_read, no_comma, no_field, unit_spelled}
+use Rattle.printed_syntax.proofs.LiteralSpellings.{at_level, constructor_spelled, no_constructor_spelled, fields_read, last_read, value_read, no_comma, no_value, one_left, unit_spelled}
 use Rattle.printed_syntax.proofs.literal.+value.Goals as goal
 
 pub value-returns-in-BoolForm : goal.value-returns-in-BoolForm
@@ -45,7 +47,7 @@ pub value-returns-in-AuthForm : goal.value-returns-in-AuthForm
 value-returns-in-AuthForm t c =
     let ty = type_at (types_of c.args.program.now) c.args.ty in
     subst (λ reading. ReadsPart (λ (_ : Unit {0}). c.args.bytes.now.items) (spelled spelling c.args.bytes.now.items reading) c.no_value.result (remaining c.no_value.new.parser))
-    (at_no_literal c.args.program.now c.args.levels ty c.form.result (remaining c.args.parser.now) c.if-levels-eq0.false c.form.ensures.form c.in-AuthForm.is)
+    (at_level c.args.program.now c.args.levels ty (AuthTy (type_at (types_of c.args.program.now) c.in-AuthForm.field-0)) (remaining c.args.parser.now) c.if-levels-eq0.false c.in-AuthForm.ensures.form)
     (unit_spelled c.args.bytes.now.items (mismatch (remaining c.args.parser.now)) c.no_value.result (remaining c.no_value.new.parser) c.no_value.ensures)
 
 pub value-returns-in-PairForm : goal.value-returns-in-PairForm
@@ -59,6 +61,12 @@ value-returns-in-NamedForm t c =
     let ty = type_at (types_of c.args.program.now) c.args.ty in
     subst (λ reading. ReadsPart (λ (_ : Unit {0}). c.constructor.new.bytes.items) (spelled spelling c.args.bytes.now.items reading) c.constructor.result (remaining c.constructor.new.parser))
     (at_level c.args.program.now c.args.levels ty (NamedTy c.in-NamedForm.named.0) (remaining c.args.parser.now) c.if-levels-eq0.false c.in-NamedForm.ensures.form) c.constructor.ensures
+
+pub value-returns-in-VecForm : goal.value-returns-in-VecForm
+value-returns-in-VecForm t c =
+    let ty = type_at (types_of c.args.program.now) c.args.ty in
+    subst (λ reading. ReadsPart (λ (_ : Unit {0}). c.array.new.bytes.items) (spelled spelling c.args.bytes.now.items reading) c.array.result (remaining c.array.new.parser))
+    (at_level c.args.program.now c.args.levels ty (VecTy c.in-VecForm.count (type_at (types_of c.args.program.now) c.in-VecForm.item)) (remaining c.args.parser.now) c.if-levels-eq0.false c.in-VecForm.ensures.form) c.array.ensures
 
 pub constructor-returns-in_default-constructor : goal.constructor-returns-in_default-constructor
 constructor-returns-in_default-constructor t c =
@@ -110,12 +118,12 @@ other_fields-returns-in_err-mark t c =
     let fault = c.in_err-mark.field-0.0 in
     let none : TyId = record { 0 = 0 } in
     let ts = types_at (types_of program) (drop (i + 1) types) in
-    let read = c.loop-ty.invariant ∙ ap (λ left. spelled spellings bytes (more_fields one (types_at (types_of program) left) tokens)) (drop_more types i none c.loop-ty-test.true) in
+    let read = c.loop-ty.invariant ∙ ap (λ left. spelled spellings bytes (more_values RightParenthesis one (types_at (types_of program) left) tokens)) (drop_more types i none c.loop-ty-test.true) in
     let p = err_from_is_err_and c.from_residual.result c.from_residual.ensures.1 in
-    subst (λ (result : Result (Unit {0}) SyntaxFault). ReadsPart (λ (_ : Unit {0}). bytes) (spelled spellings c.args.bytes.now.items (more_fields one (types_at (types_of program) types) (remaining c.args.parser.now))) result rest)
+    subst (λ (result : Result (Unit {0}) SyntaxFault). ReadsPart (λ (_ : Unit {0}). bytes) (spelled spellings c.args.bytes.now.items (more_values RightParenthesis one (types_at (types_of program) types) (remaining c.args.parser.now))) result rest)
     (sym (p.1 ∙ ap Err p.2))
     (subst (λ (reading : LiteralReading (List ℕ)). ReadsPart (λ (_ : Unit {0}). bytes) reading (Err fault) rest) (sym read)
-    (no_comma one (type_at (types_of program) (slice_index_or types i none)) ts bytes bytes tokens rest fault c.in_err-mark.ensures))
+    (no_comma RightParenthesis one 1 (type_at (types_of program) (slice_index_or types i none)) ts bytes bytes tokens rest fault c.in_err-mark.ensures))
 
 pub other_fields-returns-in_err-value : goal.other_fields-returns-in_err-value
 other_fields-returns-in_err-value t c =
@@ -129,12 +137,12 @@ other_fields-returns-in_err-value t c =
     let rest = remaining c.value.new.parser in
     let fault = c.in_err-value.field-0.0 in
     let ts = types_at (types_of program) (drop (i + 1) types) in
-    let read = c.loop-ty.invariant ∙ ap (λ left. spelled spellings bytes (more_fields one (types_at (types_of program) left) tokens)) (drop_more types i _ c.loop-ty-test.true) in
+    let read = c.loop-ty.invariant ∙ ap (λ left. spelled spellings bytes (more_values RightParenthesis one (types_at (types_of program) left) tokens)) (drop_more types i _ c.loop-ty-test.true) in
     let p = err_from_is_err_and c.from_residual-in_err-value.result c.from_residual-in_err-value.ensures.1 in
-    subst (λ (result : Result (Unit {0}) SyntaxFault). ReadsPart (λ (_ : Unit {0}). after) (spelled spellings c.args.bytes.now.items (more_fields one (types_at (types_of program) types) (remaining c.args.parser.now))) result rest)
+    subst (λ (result : Result (Unit {0}) SyntaxFault). ReadsPart (λ (_ : Unit {0}). after) (spelled spellings c.args.bytes.now.items (more_values RightParenthesis one (types_at (types_of program) types) (remaining c.args.parser.now))) result rest)
     (sym (p.1 ∙ ap Err p.2))
     (subst (λ (reading : LiteralReading (List ℕ)). ReadsPart (λ (_ : Unit {0}). after) reading (Err fault) rest) (sym read)
-    (no_field one _ ts bytes after tokens (remaining c.mark.new.parser) rest fault c.in_ok-mark.ensures c.in_err-value.ensures))
+    (no_value RightParenthesis one 1 _ ts bytes after tokens (remaining c.mark.new.parser) rest fault c.in_ok-mark.ensures c.in_err-value.ensures))
 
 pub other_fields-returns : goal.other_fields-returns
 other_fields-returns t c =
@@ -143,9 +151,9 @@ other_fields-returns t c =
     let types = c.args.types.now in
     let read =
     c.loop-ty.invariant
-    ∙ ap (λ left. spelled spellings c.loop-ty.bytes.items (more_fields one (types_at (types_of program) left) (remaining c.loop-ty.parser))) (drop_all c.loop-ty.ty-index types (omega (arith, c.loop-ty-test.false))) in
+    ∙ ap (λ left. spelled spellings c.loop-ty.bytes.items (more_values RightParenthesis one (types_at (types_of program) left) (remaining c.loop-ty.parser))) (drop_all c.loop-ty.ty-index types (omega (arith, c.loop-ty-test.false))) in
     subst (λ (reading : LiteralReading (List ℕ)). ReadsPart (λ (_ : Unit {0}). c.loop-ty.bytes.items) reading c.mark-2.result (remaining c.mark-2.new.parser)) (sym read)
-    (last_read one c.loop-ty.bytes.items (remaining c.loop-ty.parser) (remaining c.mark-2.new.parser) c.mark-2.result c.mark-2.ensures)
+    (last_read RightParenthesis one 1 c.loop-ty.bytes.items (remaining c.loop-ty.parser) (remaining c.mark-2.new.parser) c.mark-2.result c.mark-2.ensures)
 
 pub other_fields-loop-ty-preserved : goal.other_fields-loop-ty-preserved
 other_fields-loop-ty-preserved t c =
@@ -154,6 +162,62 @@ other_fields-loop-ty-preserved t c =
     let types = c.args.types.now in
     let i = c.loop-ty.ty-index in
     c.loop-ty.invariant
-    ∙ ap (λ left. spelled spellings c.loop-ty.bytes.items (more_fields one (types_at (types_of program) left) (remaining c.loop-ty.parser))) (drop_more types i _ c.loop-ty-test.true)
-    ∙ more_read one _ (types_at (types_of program) (drop (i + 1) types)) c.loop-ty.bytes.items c.value.new.bytes.items (remaining c.loop-ty.parser) (remaining c.mark.new.parser) (remaining c.value.new.parser)
+    ∙ ap (λ left. spelled spellings c.loop-ty.bytes.items (more_values RightParenthesis one (types_at (types_of program) left) (remaining c.loop-ty.parser))) (drop_more types i _ c.loop-ty-test.true)
+    ∙ value_read RightParenthesis one 1 _ (types_at (types_of program) (drop (i + 1) types)) c.loop-ty.bytes.items c.value.new.bytes.items (remaining c.loop-ty.parser) (remaining c.mark.new.parser) (remaining c.value.new.parser)
     c.in_ok-mark.ensures c.in_ok-value.ensures
+
+pub array-returns-in_err-comma : goal.array-returns-in_err-comma
+array-returns-in_err-comma t c =
+    let one = literal_on c.args.program.now c.args.levels in
+    let item = type_at (types_of c.args.program.now) c.args.item in
+    let i = c.loop-index.index in
+    let bytes = c.loop-index.bytes.items in
+    let tokens = remaining c.loop-index.parser in
+    let rest = remaining c.comma.new.parser in
+    let fault = c.in_err-comma.field-0.0 in
+    let read = c.loop-index.invariant ∙ ap (λ ts. spelled spellings bytes (values_from i RightBracket one ts tokens)) (one_left c.args.count i item c.loop-index-test.true) in
+    let p = err_from_is_err_and c.from_residual-in_err-comma.result c.from_residual-in_err-comma.ensures.1 in
+    subst (λ (result : Result (Unit {0}) SyntaxFault). ReadsPart (λ (_ : Unit {0}). bytes) (spelled spelling c.args.bytes.now.items (array_literal one c.args.count item (remaining c.args.parser.now))) result rest)
+    (sym (p.1 ∙ ap Err p.2))
+    (subst (λ (reading : LiteralReading (List ℕ)). ReadsPart (λ (_ : Unit {0}). bytes) reading (Err fault) rest) (sym read)
+    (no_comma RightBracket one i item (item_types (c.args.count - (i + 1)) item) bytes bytes tokens rest fault c.in_err-comma.ensures))
+
+pub array-returns-in_err-value : goal.array-returns-in_err-value
+array-returns-in_err-value t c =
+    let one = literal_on c.args.program.now c.args.levels in
+    let item = type_at (types_of c.args.program.now) c.args.item in
+    let i = c.loop-index.index in
+    let bytes = c.loop-index.bytes.items in
+    let after = c.value.new.bytes.items in
+    let tokens = remaining c.loop-index.parser in
+    let rest = remaining c.value.new.parser in
+    let fault = c.in_err-value.field-0.0 in
+    let read = c.loop-index.invariant ∙ ap (λ ts. spelled spellings bytes (values_from i RightBracket one ts tokens)) (one_left c.args.count i item c.loop-index-test.true) in
+    let p = err_from_is_err_and c.from_residual-in_err-value.result c.from_residual-in_err-value.ensures.1 in
+    subst (λ (result : Result (Unit {0}) SyntaxFault). ReadsPart (λ (_ : Unit {0}). after) (spelled spelling c.args.bytes.now.items (array_literal one c.args.count item (remaining c.args.parser.now))) result rest)
+    (sym (p.1 ∙ ap Err p.2))
+    (subst (λ (reading : LiteralReading (List ℕ)). ReadsPart (λ (_ : Unit {0}). after) reading (Err fault) rest) (sym read)
+    (no_value RightBracket one i item (item_types (c.args.count - (i + 1)) item) bytes after tokens (remaining c.comma.new.parser) rest fault c.in_ok-comma.ensures c.in_err-value.ensures))
+
+pub array-loop-index-preserved : goal.array-loop-index-preserved
+array-loop-index-preserved t c =
+    let one = literal_on c.args.program.now c.args.levels in
+    let item = type_at (types_of c.args.program.now) c.args.item in
+    let i = c.loop-index.index in
+    let left = item_types (c.args.count - (i + 1)) item in
+    let rest = remaining c.value.new.parser in
+    c.loop-index.invariant
+    ∙ ap (λ ts. spelled spellings c.loop-index.bytes.items (values_from i RightBracket one ts (remaining c.loop-index.parser))) (one_left c.args.count i item c.loop-index-test.true)
+    ∙ value_read RightBracket one i item left c.loop-index.bytes.items c.value.new.bytes.items (remaining c.loop-index.parser) (remaining c.comma.new.parser) rest
+    c.in_ok-comma.ensures c.in_ok-value.ensures
+    ∙ ap (λ n. spelled spellings c.value.new.bytes.items (values_from n RightBracket one left rest)) (suc-eq-add-one i)
+
+pub array-returns : goal.array-returns
+array-returns t c =
+    let one = literal_on c.args.program.now c.args.levels in
+    let item = type_at (types_of c.args.program.now) c.args.item in
+    let i = c.loop-index.index in
+    let none : c.args.count - i ≡ 0 = omega (arith, c.loop-index-test.false) in
+    let read = c.loop-index.invariant ∙ ap (λ n. spelled spellings c.loop-index.bytes.items (values_from i RightBracket one (item_types n item) (remaining c.loop-index.parser))) none in
+    subst (λ (reading : LiteralReading (List ℕ)). ReadsPart (λ (_ : Unit {0}). c.loop-index.bytes.items) reading c.mark-2.result (remaining c.mark-2.new.parser)) (sym read)
+    (last_read RightBracket one i c.loop-index.bytes.items (remaining c.loop-index.parser) (remaining c.mark-2.new.parser) c.mark-2.result c.mark-2.ensures)

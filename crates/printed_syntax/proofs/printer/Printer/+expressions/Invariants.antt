@@ -32,6 +32,9 @@ decreases-binary l = 4 * max (size-ExpTree l.first.now) (size-ExpTree l.second.n
 abbrev pub decreases-call : goal.decreases-call
 decreases-call l = 4 * most size-ExpTree l.operands.now + 2
 
+abbrev pub decreases-operate : goal.decreases-operate
+decreases-operate l = 4 * most size-ExpTree l.operands.now + 2
+
 abbrev pub decreases-let_in : goal.decreases-let_in
 decreases-let_in l = 4 * max (size-ExpTree l.bound.now) (size-ExpTree l.body.now) + 1
 
