@@ -6,6 +6,7 @@ use Rattle.std.proofs.lemmas.List.{length-map}
 use Rattle.std.proofs.lemmas.List.Elements.{All-cons, All-head, All-nil, All-tail}
 use Rattle.std.proofs.lemmas.Option.{get_or_from_slice_get, slice_get_within}
 use Rattle.core_terms.specs.Types.{Ty, UnitTy}
+use Rattle.core_terms.specs.declared.format.Format.{Format}
 use Rattle.core_terms.specs.Programs as language
 use Rattle.core_terms.specs.ProgramTrees.{table_of, types_at}
 use Rattle.core_terms.specs.TypeTables.{type_at}
@@ -42,37 +43,37 @@ numbers_within types (id ∷ ids) (t ∷ ts) are =
     let rest : AreNumbers types ids ts = cc in
     All-cons (λ (id : TyId). id.0 < length types) id ids (slice_get_within types id.0 t here) (numbers_within types ids ts rest)
 
-module _ (names : List (List ℕ)) (types : List Ty) where
+module _ (format : Format) (names : List (List ℕ)) (types : List Ty) where
   -- the constructors of a type
-  constructor_names : (ds : List ConstructorDeclaration) (cs : List Constructor) → AreConstructorsOf names types ds cs
+  constructor_names : (ds : List ConstructorDeclaration) (cs : List Constructor) → AreConstructorsOf format names types ds cs
       → map (λ (c : Constructor). c.name) cs ≡ map (λ (d : ConstructorDeclaration). d.name.name) ds
   constructor_names [] [] are = refl
   constructor_names [] (c ∷ cs) are = absurd are
   constructor_names (d ∷ ds) [] are = absurd are
   constructor_names (d ∷ ds) (c ∷ cs) are = let here = are.0.name in let rest = constructor_names ds cs are.1 in cc
 
-  constructor_fields : (ds : List ConstructorDeclaration) (cs : List Constructor) → AreConstructorsOf names types ds cs
-      → map (λ (c : Constructor). types_at types c.fields.items) cs ≡ map (λ (d : ConstructorDeclaration). map (type_meant names) d.fields) ds
+  constructor_fields : (ds : List ConstructorDeclaration) (cs : List Constructor) → AreConstructorsOf format names types ds cs
+      → map (λ (c : Constructor). types_at types c.fields.items) cs ≡ map (λ (d : ConstructorDeclaration). map (type_meant format names) d.fields) ds
   constructor_fields [] [] are = refl
   constructor_fields [] (c ∷ cs) are = absurd are
   constructor_fields (d ∷ ds) [] are = absurd are
   constructor_fields (d ∷ ds) (c ∷ cs) are =
-      let here : types_at types c.fields.items ≡ map (type_meant names) d.fields =
-      numbers_types types c.fields.items (map (type_meant names) d.fields) are.0.fields in
+      let here : types_at types c.fields.items ≡ map (type_meant format names) d.fields =
+      numbers_types types c.fields.items (map (type_meant format names) d.fields) are.0.fields in
       let rest = constructor_fields ds cs are.1 in
       cc
 
-  constructors_within : (ds : List ConstructorDeclaration) (cs : List Constructor) → AreConstructorsOf names types ds cs
+  constructors_within : (ds : List ConstructorDeclaration) (cs : List Constructor) → AreConstructorsOf format names types ds cs
       → All (IsConstructorWithin (length types)) cs
   constructors_within [] [] are = All-nil (IsConstructorWithin (length types))
   constructors_within [] (c ∷ cs) are = absurd are
   constructors_within (d ∷ ds) [] are = absurd are
   constructors_within (d ∷ ds) (c ∷ cs) are =
-      All-cons (IsConstructorWithin (length types)) c cs (numbers_within types c.fields.items (map (type_meant names) d.fields) are.0.fields)
+      All-cons (IsConstructorWithin (length types)) c cs (numbers_within types c.fields.items (map (type_meant format names) d.fields) are.0.fields)
       (constructors_within ds cs are.1)
 
   -- the named types
-  pub named_names : (ds : List DeclarationSyntax) (named : List NamedType) → AreNamedOf names types ds named
+  pub named_names : (ds : List DeclarationSyntax) (named : List NamedType) → AreNamedOf format names types ds named
       → language.type_names named ≡ type_names ds
   named_names [] [] are = refl
   named_names [] (t ∷ named) are = absurd are
@@ -81,7 +82,7 @@ module _ (names : List (List ℕ)) (types : List Ty) where
   named_names (StateDeclaration at t ∷ ds) named are = named_names ds named are
   named_names (FunctionDeclaration at f ∷ ds) named are = named_names ds named are
 
-  pub named_constructors : (ds : List DeclarationSyntax) (named : List NamedType) → AreNamedOf names types ds named
+  pub named_constructors : (ds : List DeclarationSyntax) (named : List NamedType) → AreNamedOf format names types ds named
       → constructors_meant named ≡ constructors_in ds
   named_constructors [] [] are = refl
   named_constructors [] (t ∷ named) are = absurd are
@@ -91,8 +92,8 @@ module _ (names : List (List ℕ)) (types : List Ty) where
   named_constructors (StateDeclaration at t ∷ ds) named are = named_constructors ds named are
   named_constructors (FunctionDeclaration at f ∷ ds) named are = named_constructors ds named are
 
-  pub named_table : (ds : List DeclarationSyntax) (named : List NamedType) → AreNamedOf names types ds named
-      → table_of types named ≡ defined.table_of names ds
+  pub named_table : (ds : List DeclarationSyntax) (named : List NamedType) → AreNamedOf format names types ds named
+      → table_of types named ≡ defined.table_of format names ds
   named_table [] [] are = refl
   named_table [] (t ∷ named) are = absurd are
   named_table (TypeDeclaration at name cs ∷ ds) [] are = absurd are
@@ -101,7 +102,7 @@ module _ (names : List (List ℕ)) (types : List Ty) where
   named_table (StateDeclaration at t ∷ ds) named are = named_table ds named are
   named_table (FunctionDeclaration at f ∷ ds) named are = named_table ds named are
 
-  pub named_within : (ds : List DeclarationSyntax) (named : List NamedType) → AreNamedOf names types ds named
+  pub named_within : (ds : List DeclarationSyntax) (named : List NamedType) → AreNamedOf format names types ds named
       → All (IsNamedWithin (length types)) named
   named_within [] [] are = All-nil (IsNamedWithin (length types))
   named_within [] (t ∷ named) are = absurd are
@@ -123,40 +124,40 @@ module _ (names : List (List ℕ)) (types : List Ty) where
       (omega (arith, All-head P row (table_of types named) few, length-map t.constructors.items (λ (c : Constructor). types_at types c.fields.items)))
       (few_constructors named (All-tail P row (table_of types named) few))
 
-  pub named_few : (declared : Declared) (ds : List DeclarationSyntax) (named : List NamedType) → AreNamedOf names types ds named
+  pub named_few : (declared : Declared) (ds : List DeclarationSyntax) (named : List NamedType) → AreNamedOf format names types ds named
       → checked_declarations nothing_declared ds ≡ Sound (declared_of declared)
       → All (λ (t : NamedType). length t.constructors.items ≤ 255) named
   named_few declared ds named are sound =
-      let within = given (λ _. limits.AreWithin names nothing_declared ds) (checked_declarations nothing_declared ds) (declared_of declared)
-      (declarations_within names nothing_declared ds (omega arith) (omega arith)) sound in
+      let within = given (λ _. limits.AreWithin format names nothing_declared ds) (checked_declarations nothing_declared ds) (declared_of declared)
+      (declarations_within format names nothing_declared ds (omega arith) (omega arith)) sound in
       few_constructors named (subst (All (λ (constructors : List (List Ty)). length constructors ≤ most_constructors))
       (sym (named_table ds named are)) within.constructors)
 
   -- the functions
-  head_signature_is : (f : FunctionSyntax) (head : Head) → IsHeadOf names types f head → signature_meant types head ≡ signature_of names f
+  head_signature_is : (f : FunctionSyntax) (head : Head) → IsHeadOf format names types f head → signature_meant types head ≡ signature_of format names f
   head_signature_is f head is =
       let name : head.function.now.name.name ≡ f.name.name = ap (λ (g : FunctionSyntax). g.name.name) is.function in
-      let parameters : types_at types head.parameters.items ≡ map (λ (p : ParameterSyntax). type_meant names p.of_type) f.parameters =
-      numbers_types types head.parameters.items (map (λ (p : ParameterSyntax). type_meant names p.of_type) f.parameters) is.parameters in
-      let result : type_at types head.result ≡ type_meant names f.result_type =
-      get_or_from_slice_get types head.result.0 (type_meant names f.result_type) UnitTy is.result in
+      let parameters : types_at types head.parameters.items ≡ map (λ (p : ParameterSyntax). type_meant format names p.of_type) f.parameters =
+      numbers_types types head.parameters.items (map (λ (p : ParameterSyntax). type_meant format names p.of_type) f.parameters) is.parameters in
+      let result : type_at types head.result ≡ type_meant format names f.result_type =
+      get_or_from_slice_get types head.result.0 (type_meant format names f.result_type) UnitTy is.result in
       cc
 
-  pub heads_signatures : (fs : List FunctionSyntax) (heads : List Head) → AllZip (IsHeadOf names types) fs heads
-      → map (signature_meant types) heads ≡ map (signature_of names) fs
+  pub heads_signatures : (fs : List FunctionSyntax) (heads : List Head) → AllZip (IsHeadOf format names types) fs heads
+      → map (signature_meant types) heads ≡ map (signature_of format names) fs
   heads_signatures [] [] are = refl
   heads_signatures [] (h ∷ heads) are = absurd are
   heads_signatures (f ∷ fs) [] are = absurd are
   heads_signatures (f ∷ fs) (h ∷ heads) are = let here = head_signature_is f h are.0 in let rest = heads_signatures fs heads are.1 in cc
 
-  pub heads_functions : (fs : List FunctionSyntax) (heads : List Head) → AllZip (IsHeadOf names types) fs heads
+  pub heads_functions : (fs : List FunctionSyntax) (heads : List Head) → AllZip (IsHeadOf format names types) fs heads
       → map (λ (h : Head). function_of h.function.now) heads ≡ fs
   heads_functions [] [] are = refl
   heads_functions [] (h ∷ heads) are = absurd are
   heads_functions (f ∷ fs) [] are = absurd are
   heads_functions (f ∷ fs) (h ∷ heads) are = let here = are.0.function in let rest = heads_functions fs heads are.1 in cc
 
-  pub heads_names : (fs : List FunctionSyntax) (heads : List Head) → AllZip (IsHeadOf names types) fs heads
+  pub heads_names : (fs : List FunctionSyntax) (heads : List Head) → AllZip (IsHeadOf format names types) fs heads
       → map (λ (h : Head). h.function.now.name.name) heads ≡ map (λ (f : FunctionSyntax). f.name.name) fs
   heads_names [] [] are = refl
   heads_names [] (h ∷ heads) are = absurd are
@@ -166,37 +167,38 @@ module _ (names : List (List ℕ)) (types : List Ty) where
       let rest = heads_names fs heads are.1 in
       cc
 
-  pub heads_within : (fs : List FunctionSyntax) (heads : List Head) → AllZip (IsHeadOf names types) fs heads → All (IsHeadWithin (length types)) heads
+  pub heads_within : (fs : List FunctionSyntax) (heads : List Head) → AllZip (IsHeadOf format names types) fs heads → All (IsHeadWithin (length types)) heads
   heads_within [] [] are = All-nil (IsHeadWithin (length types))
   heads_within [] (h ∷ heads) are = absurd are
   heads_within (f ∷ fs) [] are = absurd are
   heads_within (f ∷ fs) (h ∷ heads) are =
       All-cons (IsHeadWithin (length types)) h heads
       (record {
-        parameters = numbers_within types h.parameters.items (map (λ (p : ParameterSyntax). type_meant names p.of_type) f.parameters)
+        parameters = numbers_within types h.parameters.items (map (λ (p : ParameterSyntax). type_meant format names p.of_type) f.parameters)
             are.0.parameters;
-        result = slice_get_within types h.result.0 (type_meant names f.result_type) are.0.result;
+        result = slice_get_within types h.result.0 (type_meant format names f.result_type) are.0.result;
       })
       (heads_within fs heads are.1)
 
 -- the scope that these parts make
-pub scope_is : (names : List (List ℕ)) (types : List Ty) (ds : List DeclarationSyntax) (named : List NamedType) (heads : List Head)
-    → names ≡ type_names ds → AreNamedOf names types ds named → AllZip (IsHeadOf names types) (functions_in ds) heads
+pub scope_is : (format : Format) (names : List (List ℕ)) (types : List Ty) (ds : List DeclarationSyntax) (named : List NamedType) (heads : List Head)
+    → names ≡ type_names ds → AreNamedOf format names types ds named → AllZip (IsHeadOf format names types) (functions_in ds) heads
     → ◌≡◌ {A = MeantScope} (record {
+      format = format;
       functions = map (signature_meant types) heads;
       constructors = constructors_meant named;
       table = table_of types
           named;
-    }) (scope_in ds)
-scope_is names types ds named heads is are signed =
-    let functions : map (signature_meant types) heads ≡ map (signature_of (type_names ds)) (functions_in ds) =
-    heads_signatures names types (functions_in ds) heads signed ∙ ap (λ ns. map (signature_of ns) (functions_in ds)) is in
-    let constructors : constructors_meant named ≡ constructors_in ds = named_constructors names types ds named are in
-    let table : table_of types named ≡ defined.table_of (type_names ds) ds =
-    named_table names types ds named are ∙ ap (λ ns. defined.table_of ns ds) is in
+    }) (scope_in format ds)
+scope_is format names types ds named heads is are signed =
+    let functions : map (signature_meant types) heads ≡ map (signature_of format (type_names ds)) (functions_in ds) =
+    heads_signatures format names types (functions_in ds) heads signed ∙ ap (λ ns. map (signature_of format ns) (functions_in ds)) is in
+    let constructors : constructors_meant named ≡ constructors_in ds = named_constructors format names types ds named are in
+    let table : table_of types named ≡ defined.table_of format (type_names ds) ds =
+    named_table format names types ds named are ∙ ap (λ ns. defined.table_of format ns ds) is in
     cc
 
-pub scope_within : (names : List (List ℕ)) (types : List Ty) (ds : List DeclarationSyntax) (scope : Scope)
-    → AreNamedOf names types ds scope.named.items → AllZip (IsHeadOf names types) (functions_in ds) scope.heads.items → IsWithin (length types) scope
-scope_within names types ds scope are heads =
-    record { heads = heads_within names types (functions_in ds) scope.heads.items heads; named = named_within names types ds scope.named.items are }
+pub scope_within : (format : Format) (names : List (List ℕ)) (types : List Ty) (ds : List DeclarationSyntax) (scope : Scope)
+    → AreNamedOf format names types ds scope.named.items → AllZip (IsHeadOf format names types) (functions_in ds) scope.heads.items → IsWithin (length types) scope
+scope_within format names types ds scope are heads =
+    record { heads = heads_within format names types (functions_in ds) scope.heads.items heads; named = named_within format names types ds scope.named.items are }

@@ -4,6 +4,7 @@ use Rattle.std.specs.Prelude.{IsTrue}
 use Rattle.std.proofs.lemmas.Bool.{false≢true}
 use Rattle.std.proofs.lemmas.List.{length-map}
 use Rattle.core_terms.specs.Types.{Ty, Table}
+use Rattle.core_terms.specs.declared.format.Format.{Format}
 use Rattle.core_terms.specs.Roles.{has_auth}
 use Rattle.core_terms.specs.Typing.{same_type}
 use Rattle.core_terms.specs.ProgramTrees.{types_at}
@@ -32,51 +33,51 @@ abbrev function_in : Head → FunctionSyntax
 function_in head = written.function_of head.function.now
 
 -- one head among those that stand for their functions
-head_signed : (names : List (List ℕ)) (types : List Ty) (heads : List Head) (i : ℕ) (head : Head)
-    → map (signature_meant types) heads ≡ map (signature_of names) (map function_in heads)
-    → i < length heads → head ≡ slice_index_or heads i head → signature_meant types head ≡ signature_of names (function_in head)
-head_signed names types [] i head same inside is = absurd (omega (arith, inside))
-head_signed names types (h ∷ heads) zero head same inside is =
-    let here : signature_meant types h ≡ signature_of names (function_in h) = cc in
-    subst (λ (h : Head). signature_meant types h ≡ signature_of names (function_in h)) (sym is) here
-head_signed names types (h ∷ heads) (suc i) head same inside is = head_signed names types heads i head (cc) (omega (arith, inside)) is
+head_signed : (format : Format) (names : List (List ℕ)) (types : List Ty) (heads : List Head) (i : ℕ) (head : Head)
+    → map (signature_meant types) heads ≡ map (signature_of format names) (map function_in heads)
+    → i < length heads → head ≡ slice_index_or heads i head → signature_meant types head ≡ signature_of format names (function_in head)
+head_signed format names types [] i head same inside is = absurd (omega (arith, inside))
+head_signed format names types (h ∷ heads) zero head same inside is =
+    let here : signature_meant types h ≡ signature_of format names (function_in h) = cc in
+    subst (λ (h : Head). signature_meant types h ≡ signature_of format names (function_in h)) (sym is) here
+head_signed format names types (h ∷ heads) (suc i) head same inside is = head_signed format names types heads i head (cc) (omega (arith, inside)) is
 
 module _ (types : List Ty) (table : Table) (state : Ty) (scope : Scope) where
   -- what is left to check of the functions, from one on
   abbrev pub StandsAt : ℕ → Type 0
-  StandsAt i = (names : List (List ℕ)) → AreHeadsOf names types scope
-      → checked_roles names table state (functions_meant scope) ≡ checked_roles names table state (map function_in (drop i scope.heads.items))
+  StandsAt i = (format : Format) (names : List (List ℕ)) → AreHeadsOf format names types scope
+      → checked_roles format names table state (functions_meant scope) ≡ checked_roles format names table state (map function_in (drop i scope.heads.items))
 
   module _ (i : ℕ) (head : Head) (inside : i < length scope.heads.items) (is : head ≡ slice_index_or scope.heads.items i head) (so_far : StandsAt i)
     where
       next : drop i scope.heads.items ≡ head ∷ drop (i + 1) scope.heads.items
       next = rw add-one (drop-cons scope.heads.items i head inside ∙ ap (λ e. e ∷ drop (suc i) scope.heads.items) (sym is))
 
-      abbrev rest_of : (names : List (List ℕ)) → Checking (Unit {0})
-      rest_of names = checked_roles names table state (map function_in (drop (i + 1) scope.heads.items))
+      abbrev rest_of : (format : Format) (names : List (List ℕ)) → Checking (Unit {0})
+      rest_of format names = checked_roles format names table state (map function_in (drop (i + 1) scope.heads.items))
 
-      here : (names : List (List ℕ)) → AreHeadsOf names types scope
-          → checked_roles names table state (functions_meant scope) ≡ then_checked
-          (checked_role names table state (function_in head) (function_in head).kind (function_in head).parameters) (λ _. rest_of names)
-      here names are = so_far names are ∙ ap (λ (l : List Head). checked_roles names table state (map function_in l)) next
+      here : (format : Format) (names : List (List ℕ)) → AreHeadsOf format names types scope
+          → checked_roles format names table state (functions_meant scope) ≡ then_checked
+          (checked_role format names table state (function_in head) (function_in head).kind (function_in head).parameters) (λ _. rest_of format names)
+      here format names are = so_far format names are ∙ ap (λ (l : List Head). checked_roles format names table state (map function_in l)) next
 
       pub role_passed : FindsRole types table state (written.kind_of head.function.now.kind) head (Ok tt) → StandsAt (i + 1)
-      role_passed passed names are =
-          here names are ∙ ap (λ (found : Checking (Unit {0})). then_checked found (λ _. rest_of names))
-          (passed names (head_signed names types scope.heads.items i head are inside is))
+      role_passed passed format names are =
+          here format names are ∙ ap (λ (found : Checking (Unit {0})). then_checked found (λ _. rest_of format names))
+          (passed format names (head_signed format names types scope.heads.items i head are inside is))
 
       pub role_refused : (fault : TypeFault) (answer : Result (Unit {0}) TypeFault) → answer ≡ Err fault
           → FindsRole types table state (written.kind_of head.function.now.kind) head (Err fault)
-          → (names : List (List ℕ)) → AreHeadsOf names types scope → Finds (λ _. tt) (checked_roles names table state (functions_meant scope)) answer
-      role_refused fault answer refused found names are =
-          subst (λ (r : Result (Unit {0}) TypeFault). Finds (λ _. tt) (checked_roles names table state (functions_meant scope)) r) (sym refused)
-          (by fault (found names (head_signed names types scope.heads.items i head are inside is)))
+          → (format : Format) (names : List (List ℕ)) → AreHeadsOf format names types scope → Finds (λ _. tt) (checked_roles format names table state (functions_meant scope)) answer
+      role_refused fault answer refused found format names are =
+          subst (λ (r : Result (Unit {0}) TypeFault). Finds (λ _. tt) (checked_roles format names table state (functions_meant scope)) r) (sym refused)
+          (by fault (found format names (head_signed format names types scope.heads.items i head are inside is)))
         where
           by : (fault : TypeFault) → Finds {A = Unit {0}} (λ _. tt)
-              (checked_role names table state (function_in head) (function_in head).kind (function_in head).parameters) (Err fault)
-              → Finds {A = Unit {0}} (λ _. tt) (checked_roles names table state (functions_meant scope)) (Err fault)
+              (checked_role format names table state (function_in head) (function_in head).kind (function_in head).parameters) (Err fault)
+              → Finds {A = Unit {0}} (λ _. tt) (checked_roles format names table state (functions_meant scope)) (Err fault)
           by NoMemory h = tt
-          by (At kind at) h = here names are ∙ ap (λ (found : Checking (Unit {0})). then_checked found (λ _. rest_of names)) h
+          by (At kind at) h = here format names are ∙ ap (λ (found : Checking (Unit {0})). then_checked found (λ _. rest_of format names)) h
 
 -- a role whose argument has this type, and the rest of whose shape fits or doesn't
 abbrev Judged : FunctionSyntax → Bool → Bool → List ParameterSyntax → Result (Unit {0}) TypeFault → Type 0
@@ -87,96 +88,96 @@ module _ (types : List Ty) (table : Table) (state : Ty) (head : Head) (argument 
     (judged : Judged (function_in head) fits mark (function_in head).parameters answer) where
   pub init_found : head.parameters.items ≡ argument ∷ [] → fits ≡ same_type state (type_at types head.result)
       → FindsRole types table state InitSyntax head answer
-  init_found is shape names same = by (function_in head).parameters parameters judged
+  init_found is shape format names same = by (function_in head).parameters parameters judged
     where
-      result : type_at types head.result ≡ type_meant names (function_in head).result_type
+      result : type_at types head.result ≡ type_meant format names (function_in head).result_type
       result = ap (λ (s : Signature). s.result) same
 
-      parameters : type_at types argument ∷ [] ≡ map (λ (p : ParameterSyntax). type_meant names p.of_type) (function_in head).parameters
+      parameters : type_at types argument ∷ [] ≡ map (λ (p : ParameterSyntax). type_meant format names p.of_type) (function_in head).parameters
       parameters = ap (types_at types) (sym is) ∙ ap (λ (s : Signature). s.parameters) same
 
-      by : (ps : List ParameterSyntax) → type_at types argument ∷ [] ≡ map (λ (p : ParameterSyntax). type_meant names p.of_type) ps
+      by : (ps : List ParameterSyntax) → type_at types argument ∷ [] ≡ map (λ (p : ParameterSyntax). type_meant format names p.of_type) ps
           → Judged (function_in head) fits mark ps answer
-          → Finds (λ _. tt) (checked_role names table state (function_in head) InitSyntax ps) answer
+          → Finds (λ _. tt) (checked_role format names table state (function_in head) InitSyntax ps) answer
       by [] these h = absurd (cc)
       by (p ∷ q ∷ ps) these h = absurd (cc)
       by (p ∷ []) these h =
-          let one : type_at types argument ≡ type_meant names p.of_type = cc in
-          let fit : fits ≡ same_type state (type_meant names (function_in head).result_type) = shape ∙ ap (same_type state) result in
-          let auth : mark ≡ has_auth table (type_meant names p.of_type) = marked ∙ ap (has_auth table) one in
-          subst (λ (m : Bool). Judged (function_in head) (same_type state (type_meant names (function_in head).result_type)) m (p ∷ []) answer) auth
+          let one : type_at types argument ≡ type_meant format names p.of_type = cc in
+          let fit : fits ≡ same_type state (type_meant format names (function_in head).result_type) = shape ∙ ap (same_type state) result in
+          let auth : mark ≡ has_auth table (type_meant format names p.of_type) = marked ∙ ap (has_auth table) one in
+          subst (λ (m : Bool). Judged (function_in head) (same_type state (type_meant format names (function_in head).result_type)) m (p ∷ []) answer) auth
           (subst (λ (f : Bool). Judged (function_in head) f mark (p ∷ []) answer) fit h)
 
   -- a role with a state before its argument
   module _ (first : TyId) (is : head.parameters.items ≡ first ∷ argument ∷ []) where
-    parameters_of_two : (names : List (List ℕ)) → signature_meant types head ≡ signature_of names (function_in head)
-        → type_at types first ∷ type_at types argument ∷ [] ≡ map (λ (p : ParameterSyntax). type_meant names p.of_type) (function_in head).parameters
-    parameters_of_two names same = ap (types_at types) (sym is) ∙ ap (λ (s : Signature). s.parameters) same
+    parameters_of_two : (format : Format) (names : List (List ℕ)) → signature_meant types head ≡ signature_of format names (function_in head)
+        → type_at types first ∷ type_at types argument ∷ [] ≡ map (λ (p : ParameterSyntax). type_meant format names p.of_type) (function_in head).parameters
+    parameters_of_two format names same = ap (types_at types) (sym is) ∙ ap (λ (s : Signature). s.parameters) same
 
     pub query_found : fits ≡ same_type state (type_at types first) → FindsRole types table state QuerySyntax head answer
-    query_found shape names same = by (function_in head).parameters (parameters_of_two names same) judged
+    query_found shape format names same = by (function_in head).parameters (parameters_of_two format names same) judged
       where
         by : (ps : List ParameterSyntax) → type_at types first ∷ type_at types
-            argument ∷ [] ≡ map (λ (p : ParameterSyntax). type_meant names p.of_type) ps → Judged (function_in head) fits mark ps answer
-            → Finds (λ _. tt) (checked_role names table state (function_in head) QuerySyntax ps) answer
+            argument ∷ [] ≡ map (λ (p : ParameterSyntax). type_meant format names p.of_type) ps → Judged (function_in head) fits mark ps answer
+            → Finds (λ _. tt) (checked_role format names table state (function_in head) QuerySyntax ps) answer
         by [] these h = absurd (cc)
         by (p ∷ []) these h = absurd (cc)
         by (p ∷ q ∷ r ∷ ps) these h = absurd (cc)
         by (p ∷ q ∷ []) these h =
-            let one : type_at types first ≡ type_meant names p.of_type = cc in
-            let two : type_at types argument ≡ type_meant names q.of_type = cc in
-            let fit : fits ≡ same_type state (type_meant names p.of_type) = shape ∙ ap (same_type state) one in
-            let auth : mark ≡ has_auth table (type_meant names q.of_type) = marked ∙ ap (has_auth table) two in
-            subst (λ (m : Bool). Judged (function_in head) (same_type state (type_meant names p.of_type)) m (p ∷ q ∷ []) answer) auth
+            let one : type_at types first ≡ type_meant format names p.of_type = cc in
+            let two : type_at types argument ≡ type_meant format names q.of_type = cc in
+            let fit : fits ≡ same_type state (type_meant format names p.of_type) = shape ∙ ap (same_type state) one in
+            let auth : mark ≡ has_auth table (type_meant format names q.of_type) = marked ∙ ap (has_auth table) two in
+            subst (λ (m : Bool). Judged (function_in head) (same_type state (type_meant format names p.of_type)) m (p ∷ q ∷ []) answer) auth
             (subst (λ (f : Bool). Judged (function_in head) f mark (p ∷ q ∷ []) answer) fit h)
 
-    pub update_found : fits ≡ same_type state (type_at types first) && is_new_state [] [] state (type_at types head.result)
+    pub update_found : fits ≡ same_type state (type_at types first) && is_new_state state (type_at types head.result)
         → FindsRole types table state UpdateSyntax head answer
-    update_found shape names same = by (function_in head).parameters (parameters_of_two names same) judged
+    update_found shape format names same = by (function_in head).parameters (parameters_of_two format names same) judged
       where
-        result : type_at types head.result ≡ type_meant names (function_in head).result_type
+        result : type_at types head.result ≡ type_meant format names (function_in head).result_type
         result = ap (λ (s : Signature). s.result) same
 
         by : (ps : List ParameterSyntax) → type_at types first ∷ type_at types
-            argument ∷ [] ≡ map (λ (p : ParameterSyntax). type_meant names p.of_type) ps → Judged (function_in head) fits mark ps answer
-            → Finds (λ _. tt) (checked_role names table state (function_in head) UpdateSyntax ps) answer
+            argument ∷ [] ≡ map (λ (p : ParameterSyntax). type_meant format names p.of_type) ps → Judged (function_in head) fits mark ps answer
+            → Finds (λ _. tt) (checked_role format names table state (function_in head) UpdateSyntax ps) answer
         by [] these h = absurd (cc)
         by (p ∷ []) these h = absurd (cc)
         by (p ∷ q ∷ r ∷ ps) these h = absurd (cc)
         by (p ∷ q ∷ []) these h =
-            let one : type_at types first ≡ type_meant names p.of_type = cc in
-            let two : type_at types argument ≡ type_meant names q.of_type = cc in
-            let new : Ty → Bool = λ t. is_new_state [] [] state t in
-            let fit : fits ≡ same_type state (type_meant names p.of_type) && new (type_meant names (function_in head).result_type) =
+            let one : type_at types first ≡ type_meant format names p.of_type = cc in
+            let two : type_at types argument ≡ type_meant format names q.of_type = cc in
+            let new : Ty → Bool = λ t. is_new_state state t in
+            let fit : fits ≡ same_type state (type_meant format names p.of_type) && new (type_meant format names (function_in head).result_type) =
             shape ∙ ap (λ (t : Ty). same_type state t && new (type_at types head.result)) one
-            ∙ ap (λ (t : Ty). same_type state (type_meant names p.of_type) && new t) result in
-            let auth : mark ≡ has_auth table (type_meant names q.of_type) = marked ∙ ap (has_auth table) two in
-            subst (λ (m : Bool). Judged (function_in head) (same_type state (type_meant names p.of_type) && new
-            (type_meant names (function_in head).result_type)) m (p ∷ q ∷ []) answer) auth
+            ∙ ap (λ (t : Ty). same_type state (type_meant format names p.of_type) && new t) result in
+            let auth : mark ≡ has_auth table (type_meant format names q.of_type) = marked ∙ ap (has_auth table) two in
+            subst (λ (m : Bool). Judged (function_in head) (same_type state (type_meant format names p.of_type) && new
+            (type_meant format names (function_in head).result_type)) m (p ∷ q ∷ []) answer) auth
             (subst (λ (f : Bool). Judged (function_in head) f mark (p ∷ q ∷ []) answer) fit h)
 
 -- as many numbers as parameters
 module _ (types : List Ty) (table : Table) (state : Ty) (head : Head) where
-  as_many : (names : List (List ℕ)) → signature_meant types head ≡ signature_of names (function_in head)
+  as_many : (format : Format) (names : List (List ℕ)) → signature_meant types head ≡ signature_of format names (function_in head)
       → length head.parameters.items ≡ length (function_in head).parameters
-  as_many names same =
+  as_many format names same =
       sym (length-map head.parameters.items (type_at types)) ∙ ap (λ (s : Signature). length s.parameters) same
-      ∙ length-map (function_in head).parameters (λ (p : ParameterSyntax). type_meant names p.of_type)
+      ∙ length-map (function_in head).parameters (λ (p : ParameterSyntax). type_meant format names p.of_type)
 
   -- a role of another number of parameters
   pub init_misshaped : length head.parameters.items ≢ 1 → FindsRole types table state InitSyntax head (Err (At RoleShape head.function.now.name.at))
-  init_misshaped other names same = by (function_in head).parameters (λ one. other (as_many names same ∙ one))
+  init_misshaped other format names same = by (function_in head).parameters (λ one. other (as_many format names same ∙ one))
     where
-      by : (ps : List ParameterSyntax) → length ps ≢ 1 → checked_role names table state (function_in head) InitSyntax ps ≡ FaultAt RoleShape
+      by : (ps : List ParameterSyntax) → length ps ≢ 1 → checked_role format names table state (function_in head) InitSyntax ps ≡ FaultAt RoleShape
           head.function.now.name.at
       by [] other = refl
       by (p ∷ []) other = absurd (other refl)
       by (p ∷ q ∷ ps) other = refl
 
   pub query_misshaped : length head.parameters.items ≢ 2 → FindsRole types table state QuerySyntax head (Err (At RoleShape head.function.now.name.at))
-  query_misshaped other names same = by (function_in head).parameters (λ two. other (as_many names same ∙ two))
+  query_misshaped other format names same = by (function_in head).parameters (λ two. other (as_many format names same ∙ two))
     where
-      by : (ps : List ParameterSyntax) → length ps ≢ 2 → checked_role names table state (function_in head) QuerySyntax ps ≡ FaultAt RoleShape
+      by : (ps : List ParameterSyntax) → length ps ≢ 2 → checked_role format names table state (function_in head) QuerySyntax ps ≡ FaultAt RoleShape
           head.function.now.name.at
       by [] other = refl
       by (p ∷ []) other = refl
@@ -185,9 +186,9 @@ module _ (types : List Ty) (table : Table) (state : Ty) (head : Head) where
 
   pub update_misshaped : length head.parameters.items ≢ 2 → FindsRole types table state UpdateSyntax head
       (Err (At RoleShape head.function.now.name.at))
-  update_misshaped other names same = by (function_in head).parameters (λ two. other (as_many names same ∙ two))
+  update_misshaped other format names same = by (function_in head).parameters (λ two. other (as_many format names same ∙ two))
     where
-      by : (ps : List ParameterSyntax) → length ps ≢ 2 → checked_role names table state (function_in head) UpdateSyntax ps ≡ FaultAt RoleShape
+      by : (ps : List ParameterSyntax) → length ps ≢ 2 → checked_role format names table state (function_in head) UpdateSyntax ps ≡ FaultAt RoleShape
           head.function.now.name.at
       by [] other = refl
       by (p ∷ []) other = refl

@@ -10,7 +10,7 @@ use Rattle.core_terms.specs.declared.program.FunctionId.{FunctionId}
 use Rattle.core_terms.proofs.Places.{one_later}
 use Rattle.declared_types.specs.Signatures.{Numbered, Signature, constructor_named, function_named, tag_in}
 use Rattle.declared_types.specs.ScopeNames.{constructor_meant, constructors_meant, joined, names_in, numbered, tagged}
-use Rattle.declared_types.specs.Scopes.{function_meant, no_signature, scope_meant, signature_meant}
+use Rattle.declared_types.specs.Scopes.{function_meant, no_signature, signature_meant, signatures_meant}
 use Rattle.declared_types.specs.WrittenTypes.{number_of}
 use Rattle.declared_types.specs.declared.scope.Head.{Head}
 use Rattle.declared_types.specs.declared.scope.Scope.{Scope}
@@ -53,18 +53,18 @@ function_by_name n (s ∷ signatures) name = by (bytes_eq s.name name) (function
 
 pub function_found : (types : List Ty) (scope : Scope) (name : List ℕ) (found : Option ℕ)
     → found ≡ number_of (names_in scope.function_names.keys) name
-    → function_named 0 (scope_meant types scope).functions name ≡ option_map (λ i. function_meant types scope (record { 0 = i })) found
+    → function_named 0 (signatures_meant types scope) name ≡ option_map (λ i. function_meant types scope (record { 0 = i })) found
 function_found types scope name found is =
-    let signatures = (scope_meant types scope).functions in
+    let signatures = (signatures_meant types scope) in
     let names : map (λ (s : Signature). s.name) signatures ≡ names_in scope.function_names.keys =
     map-map (λ (s : Signature). s.name) (signature_meant types) scope.heads.items ∙ sym scope.functions_named in
     function_by_name 0 signatures name ∙ ap (λ ns. option_map (at_number 0 signatures) (number_of ns name)) names
     ∙ ap (option_map (at_number 0 signatures)) (sym is) ∙ by found
   where
-    by : (o : Option ℕ) → option_map (at_number 0 (scope_meant types scope).functions) o ≡ option_map
+    by : (o : Option ℕ) → option_map (at_number 0 (signatures_meant types scope)) o ≡ option_map
         (λ i. function_meant types scope (record { 0 = i })) o
     by None = refl
-    by (Some i) = ap (λ (k : ℕ). Some (record { number = k; value = slice_index_or (scope_meant types scope).functions i no_signature })) (zero-add i)
+    by (Some i) = ap (λ (k : ℕ). Some (record { number = k; value = slice_index_or (signatures_meant types scope) i no_signature })) (zero-add i)
 
 -- a name of the keys is the name of a head
 pub heads_length : (scope : Scope) → length scope.heads.items ≡ length scope.function_names.keys
@@ -76,7 +76,7 @@ heads_length scope =
 pub head_signature : (types : List Ty) (scope : Scope) (id : FunctionId) (head : Head) → slice_get scope.heads.items id.0 ≡ Some head
     → (function_meant types scope id).value ≡ signature_meant types head
 head_signature types scope id head there =
-    let signatures = (scope_meant types scope).functions in
+    let signatures = (signatures_meant types scope) in
     let here : slice_get signatures id.0 ≡ Some (signature_meant types head) =
     slice_get-map (signature_meant types) scope.heads.items id.0 ∙ ap (option_map (signature_meant types)) there in
     by (slice_index_or signatures id.0 no_signature) (signature_meant types head)

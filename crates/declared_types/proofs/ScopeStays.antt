@@ -4,6 +4,7 @@ use Rattle.std.specs.Prelude.{All}
 use Rattle.std.proofs.Math.ListN.{get_or-append}
 use Rattle.std.proofs.lemmas.List.Elements.{All-head, All-tail, All-weaker}
 use Rattle.core_terms.specs.Types.{Ty, UnitTy}
+use Rattle.core_terms.specs.declared.format.Format.{Format}
 use Rattle.core_terms.specs.TypeTables.{type_at}
 use Rattle.core_terms.specs.ProgramTrees.{table_of, types_at}
 use Rattle.core_terms.specs.declared.types.TyId.{TyId}
@@ -51,8 +52,8 @@ module _ (a b : List Ty) (grows : Grows a b) where
       let rest = table_stays named (All-tail (IsNamedWithin (length a)) t named within) in
       cc
 
-  pub scope_stays : (scope : Scope) → IsWithin (length a) scope → scope_meant b scope ≡ scope_meant a scope
-  scope_stays scope within =
+  pub scope_stays : (format : Format) (scope : Scope) → IsWithin (length a) scope → scope_meant format b scope ≡ scope_meant format a scope
+  scope_stays format scope within =
       let functions = map_same (signature_meant b) (signature_meant a) scope.heads.items
       (All-weaker (IsHeadWithin (length a)) (λ (head : Head). signature_meant b head ≡ signature_meant a head) signature_stays scope.heads.items
       within.heads) in

@@ -5,6 +5,7 @@ use Rattle.std.proofs.lemmas.Bool.{ltb-true}
 use Rattle.std.proofs.lemmas.List.{length-map}
 use Rattle.std.proofs.lemmas.List.Elements.{All-cons, All-map, All-nil}
 use Rattle.core_terms.specs.Types.{Ty}
+use Rattle.core_terms.specs.declared.format.Format.{Format}
 use Rattle.auth_syntax.specs.Syntax.{ConstructorDeclaration, DeclarationSyntax, FunctionDeclaration, FunctionSyntax, NameSyntax, ParameterSyntax, StateDeclaration, TypeDeclaration, TypeSyntax, place_of_type}
 use Rattle.lexemes.specs.declared.place.Place.{Place}
 use Rattle.declared_types.specs.Checking.{Checking, FaultAt, is_among, new_name}
@@ -66,14 +67,14 @@ parameters_within before (p ∷ ps) so_far =
     (λ _ h. omega (arith, h)) (parameters_within (p.name.name ∷ before) ps (omega (arith, below))))
 
 -- the rows of a type in the table
-abbrev pub rows_of : List (List ℕ) → List ConstructorDeclaration → List (List Ty)
-rows_of names constructors = map (λ c. map (type_meant names) c.fields) constructors
+abbrev pub rows_of : Format → List (List ℕ) → List ConstructorDeclaration → List (List Ty)
+rows_of format names constructors = map (λ c. map (type_meant format names) c.fields) constructors
 
 -- the rows of the table are as long as their constructors
-rows_within : (names : List (List ℕ)) (cs : List ConstructorDeclaration) → All HasFewFields cs
-    → All (λ (ts : List Ty). length ts ≤ most_fields) (rows_of names cs)
-rows_within names cs few = All-map (λ (ts : List Ty). length ts ≤ most_fields) (λ (c : ConstructorDeclaration). map (type_meant names) c.fields) cs
-    (λ k d inside. omega (arith, few k d inside, length-map (slice_index_or cs k d).fields (type_meant names)))
+rows_within : (format : Format) (names : List (List ℕ)) (cs : List ConstructorDeclaration) → All HasFewFields cs
+    → All (λ (ts : List Ty). length ts ≤ most_fields) (rows_of format names cs)
+rows_within format names cs few = All-map (λ (ts : List Ty). length ts ≤ most_fields) (λ (c : ConstructorDeclaration). map (type_meant format names) c.fields) cs
+    (λ k d inside. omega (arith, few k d inside, length-map (slice_index_or cs k d).fields (type_meant format names)))
 
 -- functions whose names are new, one after another, behind these
 abbrev pub AreNew : List (List ℕ) → List FunctionSyntax → Type 0
@@ -130,12 +131,12 @@ FewFields constructors = All (λ (ts : List Ty). length ts ≤ most_fields) cons
 abbrev pub FewParameters : FunctionSyntax → Type 0
 FewParameters f = length f.parameters ≤ most_parameters
 
-module _ (names : List (List ℕ)) where
+module _ (format : Format) (names : List (List ℕ)) where
   -- what is declared behind what was declared so far
   pub record AreWithin (declared : Declared) (ds : List DeclarationSyntax) : Type 0 where
     pub types : length declared.types + length (type_names ds) ≤ most_types
-    pub constructors : All FewConstructors (table_of names ds)
-    pub fields : All FewFields (table_of names ds)
+    pub constructors : All FewConstructors (table_of format names ds)
+    pub fields : All FewFields (table_of format names ds)
     pub functions : length declared.functions + length (functions_in ds) ≤ most_functions
     pub parameters : All FewParameters (functions_in ds)
     pub new : AreNew declared.functions (functions_in ds)
@@ -159,9 +160,9 @@ module _ (names : List (List ℕ)) where
       (λ next q. gives_more (λ _. AreWithin next ds) R (checked_declarations next ds)
       (λ _ h. record {
         types = omega (arith, h.types, ap length q.types);
-        constructors = All-cons FewConstructors (rows_of names cs) (table_of names ds)
-            (omega (arith, q.constructors, length-map cs (λ (c : ConstructorDeclaration). map (type_meant names) c.fields))) h.constructors;
-        fields = All-cons FewFields (rows_of names cs) (table_of names ds) (rows_within names cs q.fields) h.fields;
+        constructors = All-cons FewConstructors (rows_of format names cs) (table_of format names ds)
+            (omega (arith, q.constructors, length-map cs (λ (c : ConstructorDeclaration). map (type_meant format names) c.fields))) h.constructors;
+        fields = All-cons FewFields (rows_of format names cs) (table_of format names ds) (rows_within format names cs q.fields) h.fields;
         functions = omega (arith, h.functions, ap length q.functions);
         parameters = h.parameters;
         new = subst (λ before. AreNew before (functions_in ds)) q.functions h.new;

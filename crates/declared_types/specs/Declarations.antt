@@ -1,6 +1,7 @@
 -- The first pass: the names that are declared, and how many. Types, constructors and functions are name spaces of the whole program, the
 -- parameters of a function one of the function.
 use Rattle.std.specs.Prelude.{ℕ, Bool, true, false, not, List, [], ◌∷◌, nat_lt, ◌+◌}
+use Rattle.lexemes.specs.declared.place.Place.{Place}
 use Rattle.auth_syntax.specs.Syntax.{TypeSyntax, place_of_type, ParameterSyntax, ConstructorDeclaration, DeclarationSyntax, TypeDeclaration, StateDeclaration, FunctionDeclaration, Program}
 pub use Rattle.core_terms.specs.ProgramLimits.{most_types, most_constructors, most_fields, most_functions, most_parameters}
 use Rattle.declared_types.specs.Checking.{Checking, Sound, then_checked, unless_fault, is_among, new_name}
@@ -62,8 +63,12 @@ checked_declarations declared [] = Sound declared
 checked_declarations declared (declaration ∷ rest) =
     then_checked (checked_declaration declared declaration) (λ declared. checked_declarations declared rest)
 
--- The first pass: no name stands twice in its space and nothing goes beyond its limit; after all, a state is declared.
+-- all declarations of a text that ends here: no name stands twice in its space and nothing goes beyond its limit; after all, a state is declared
+abbrev pub checked_whole : List DeclarationSyntax → Place → Checking (Unit {0})
+checked_whole declarations end =
+    then_checked (checked_declarations nothing_declared declarations) (λ declared.
+    unless_fault declared.state NoState end (Sound tt))
+
+-- the first pass
 abbrev pub first_pass : Program → Checking (Unit {0})
-first_pass program =
-    then_checked (checked_declarations nothing_declared program.declarations) (λ declared.
-    unless_fault declared.state NoState program.end (Sound tt))
+first_pass program = checked_whole program.declarations program.end

@@ -2,6 +2,7 @@
 use Rattle.std.specs.Prelude.{◌≡◌, ℕ, List, [], ◌∷◌, map, slice_get, Some}
 use Rattle.std.specs.List.{AllZip}
 use Rattle.core_terms.specs.Types.{Ty}
+use Rattle.core_terms.specs.declared.format.Format.{Format}
 use Rattle.core_terms.specs.declared.term.Constructor.{Constructor}
 use Rattle.core_terms.specs.declared.term.NamedType.{NamedType}
 use Rattle.auth_syntax.specs.Syntax.{FunctionSyntax, ConstructorDeclaration, DeclarationSyntax, NameSyntax, TypeDeclaration}
@@ -21,11 +22,11 @@ named_in [] = []
 named_in (TypeDeclaration at name constructors ∷ rest) = record { name = name; constructors = constructors } ∷ named_in rest
 named_in (declaration ∷ rest) = named_in rest
 
-module _ (names : List (List ℕ)) (types : List Ty) where
+module _ (format : Format) (names : List (List ℕ)) (types : List Ty) where
   -- a constructor, with the numbers of its fields' types
   pub record IsConstructorOf (declared : ConstructorDeclaration) (constructor : Constructor) : Type 0 where
     pub name : constructor.name ≡ declared.name.name
-    pub fields : AreNumbers types constructor.fields.items (map (type_meant names) declared.fields)
+    pub fields : AreNumbers types constructor.fields.items (map (type_meant format names) declared.fields)
 
   abbrev pub AreConstructorsOf : List ConstructorDeclaration → List Constructor → Type 0
   AreConstructorsOf declared constructors = AllZip IsConstructorOf declared constructors
@@ -42,5 +43,5 @@ module _ (names : List (List ℕ)) (types : List Ty) where
   -- a function, with the numbers of its types
   pub record IsHeadOf (declared : FunctionSyntax) (head : Head) : Type 0 where
     pub function : written.function_of head.function.now ≡ declared
-    pub parameters : AreNumbers types head.parameters.items (map (λ p. type_meant names p.of_type) declared.parameters)
-    pub result : slice_get types head.result.0 ≡ Some (type_meant names declared.result_type)
+    pub parameters : AreNumbers types head.parameters.items (map (λ p. type_meant format names p.of_type) declared.parameters)
+    pub result : slice_get types head.result.0 ≡ Some (type_meant format names declared.result_type)

@@ -6,9 +6,9 @@ use Rattle.core_terms.specs.Types.{Ty}
 use Rattle.core_terms.specs.declared.types.TyId.{TyId}
 use Rattle.auth_syntax.specs.Syntax.{Program}
 use Rattle.declared_types.specs.Checking.{Checking, then_checked}
-use Rattle.declared_types.specs.DeclaredPrograms.{names_of, state_of}
+use Rattle.declared_types.specs.DeclaredPrograms.{format_of, names_of, scope_of, state_of}
 use Rattle.declared_types.specs.Declarations.{first_pass}
-use Rattle.declared_types.specs.Scopes.{IsWithin, functions_meant, scope_in, scope_meant}
+use Rattle.declared_types.specs.Scopes.{IsWithin, functions_meant, scope_meant}
 use Rattle.declared_types.specs.WrittenTypes.{functions_in, second_pass}
 use Rattle.declared_types.specs.declared.scope.Scope.{Scope}
 
@@ -18,7 +18,7 @@ names_known program = then_checked (first_pass program) (λ _. second_pass progr
 
 -- over these types, a scope and the number of the state's type stand for what a program declares
 pub record TableStandsFor (program : Program) (types : List Ty) (held : Scope) (number : TyId) : Type 0 where
-  pub scope : scope_meant types held ≡ scope_in program.declarations
+  pub scope : scope_meant (format_of program) types held ≡ scope_of program
   pub functions : functions_meant held ≡ functions_in program.declarations
   pub names : type_names held.named.items ≡ names_of program
   pub within : IsWithin (length types) held

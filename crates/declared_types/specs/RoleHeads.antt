@@ -1,6 +1,7 @@
 -- What the third pass finds of a function of a scope.
 use Rattle.std.specs.Prelude.{◌≡◌, ℕ, Bool, not, List, [], ◌∷◌, Result}
 use Rattle.core_terms.specs.Types.{Ty, Table}
+use Rattle.core_terms.specs.declared.format.Format.{Format}
 use Rattle.auth_syntax.specs.Syntax.{FunctionSyntax, KindSyntax, ParameterSyntax, place_of_type}
 use Rattle.auth_syntax.specs.Trees as written
 use Rattle.lexemes.specs.declared.place.Place.{Place}
@@ -15,8 +16,8 @@ use Rattle.declared_types.specs.declared.scope.Head.{Head}
 -- the answer for the function as a role of this kind, where its types stand for those that are written
 abbrev pub FindsRole : List Ty → Table → Ty → KindSyntax → Head → Result (Unit {0}) TypeFault → Type 0
 FindsRole types table state kind head answer =
-    (names : List (List ℕ)) → signature_meant types head ≡ signature_of names (written.function_of head.function.now)
-    → Finds (λ _. tt) (checked_role names table state (written.function_of head.function.now) kind (written.parameters_of head.function.now.parameters)) answer
+    (format : Format) (names : List (List ℕ)) → signature_meant types head ≡ signature_of format names (written.function_of head.function.now)
+    → Finds (λ _. tt) (checked_role format names table state (written.function_of head.function.now) kind (written.parameters_of head.function.now.parameters)) answer
 
 -- the place of the last parameter's type
 abbrev pub last_place : Place → List ParameterSyntax → Place

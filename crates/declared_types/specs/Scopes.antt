@@ -3,6 +3,7 @@ use Rattle.std.specs.Prelude.{◌≡◌, ℕ, ◌<◌, List, [], length, map, sl
 use Rattle.core_terms.specs.Types.{Ty, UnitTy}
 use Rattle.core_terms.specs.TypeTables.{type_at}
 use Rattle.core_terms.specs.ProgramTrees.{table_of, types_at}
+use Rattle.core_terms.specs.declared.format.Format.{Format}
 use Rattle.core_terms.specs.declared.program.FunctionId.{FunctionId}
 use Rattle.core_terms.specs.declared.types.TyId.{TyId}
 use Rattle.core_terms.specs.declared.term.Constructor.{Constructor}
@@ -25,10 +26,15 @@ signature_meant types head = record {
   result = type_at types head.result;
 }
 
--- the scope of the definitions, over these types
-abbrev pub scope_meant : List Ty → CodeScope → Scope
-scope_meant types scope = record {
-  functions = map (signature_meant types) scope.heads.items;
+-- the functions of a scope, over these types
+abbrev pub signatures_meant : List Ty → CodeScope → List Signature
+signatures_meant types scope = map (signature_meant types) scope.heads.items
+
+-- the scope of the definitions, in a program of this format and over these types
+abbrev pub scope_meant : Format → List Ty → CodeScope → Scope
+scope_meant format types scope = record {
+  format = format;
+  functions = signatures_meant types scope;
   constructors = constructors_meant scope.named.items;
   table = table_of types scope.named.items;
 }
@@ -38,18 +44,19 @@ abbrev pub no_signature : Signature
 no_signature = record { name = []; parameters = []; result = UnitTy }
 
 abbrev pub function_meant : List Ty → CodeScope → FunctionId → Numbered Signature
-function_meant types scope id = record { number = id.0; value = slice_index_or (scope_meant types scope).functions id.0 no_signature }
+function_meant types scope id = record { number = id.0; value = slice_index_or (signatures_meant types scope) id.0 no_signature }
 
 -- the functions of the text that it holds, by number
 abbrev pub functions_meant : CodeScope → List FunctionSyntax
 functions_meant scope = map (λ (head : Head). written.function_of head.function.now) scope.heads.items
 
--- what declarations declare for the bodies
-abbrev pub scope_in : List DeclarationSyntax → Scope
-scope_in declarations = record {
-  functions = map (signature_of (type_names declarations)) (functions_in declarations);
+-- what declarations declare for the bodies, in a program of this format
+abbrev pub scope_in : Format → List DeclarationSyntax → Scope
+scope_in format declarations = record {
+  format = format;
+  functions = map (signature_of format (type_names declarations)) (functions_in declarations);
   constructors = constructors_in declarations;
-  table = defined.table_of (type_names declarations) declarations;
+  table = defined.table_of format (type_names declarations) declarations;
 }
 
 -- each number of a type that it holds is below this count
@@ -70,9 +77,9 @@ pub record IsWithin (count : ℕ) (scope : CodeScope) : Type 0 where
   pub heads : All (IsHeadWithin count) scope.heads.items
   pub named : All (IsNamedWithin count) scope.named.items
 
--- over these types the heads stand for the signatures of their functions, where types have these names
-abbrev pub AreHeadsOf : List (List ℕ) → List Ty → CodeScope → Type 0
-AreHeadsOf names types scope = map (signature_meant types) scope.heads.items ≡ map (signature_of names) (functions_meant scope)
+-- over these types the heads stand for the signatures of their functions, in a program of this format whose types have these names
+abbrev pub AreHeadsOf : Format → List (List ℕ) → List Ty → CodeScope → Type 0
+AreHeadsOf format names types scope = signatures_meant types scope ≡ map (signature_of format names) (functions_meant scope)
 
 -- a head has as many numbers of types as its function has parameters
 abbrev pub IsCounted : Head → Type 0

@@ -1,6 +1,7 @@
 -- What a program declares for its bodies: functions with their types, constructors with their fields, and which of them a name names.
 use Rattle.std.specs.Prelude.{ℕ, ◌+◌, List, [], ◌∷◌, Option, Some, None, bytes_eq, if◌then◌else◌}
 use Rattle.core_terms.specs.Types.{Ty, Table}
+use Rattle.core_terms.specs.declared.format.Format.{Format}
 use Rattle.declared_types.specs.WrittenTypes.{number_of}
 
 -- what a function is called with, and what it gives
@@ -9,9 +10,10 @@ pub record Signature : Type 0 where
   pub parameters : List Ty
   pub result : Ty
 
--- what a program declares for its bodies: the functions by number; the constructors of each named type, by number and tag, with their
+-- what a program declares for its bodies: its format; the functions by number; the constructors of each named type, by number and tag, with their
 -- names and the types of their fields
 pub record Scope : Type 0 where
+  pub format : Format
   pub functions : List Signature
   pub constructors : List (List (List ℕ))
   pub table : Table

@@ -53,7 +53,7 @@ pub fn first_pass<'a>(
     declarations: &'a [Declaration],
     end: Place,
 ) -> Result<Box<Declared<'a>>, TypeFault>
-    ensures found { Finds (λ _. tt) (spec.first_pass (record { declarations = map written.declaration_of declarations.now; end = end })) result }
+    ensures found { Finds (λ _. tt) (spec.checked_whole (map written.declaration_of declarations.now) end) result }
     ensures declared { IfOk result (λ declared. spec.checked_declarations spec.nothing_declared (map written.declaration_of declarations.now) ≡ Sound (declared_of declared.value)) }
 {
     let nothing = Declared {

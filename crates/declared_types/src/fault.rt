@@ -41,6 +41,8 @@ pub enum TypeKind {
     NotPair,
     /// The operand of `unauth` is no authenticated value.
     NotAuth,
+    /// The first operand of `vget` or `vput` is no array; or an array is written or made that the program may not have, which no text has.
+    NotVec,
     /// What is matched is of no named type.
     NotSum,
     /// The arms' constructors aren't those of the type, in order.

@@ -1,7 +1,8 @@
 // What a program declares for its bodies, with its types by number.
-ghost use Rattle.std.specs.Prelude.{◌≡◌, ◌≤◌, ◌++◌, [], length, map, slice_get, unwrap_or, Some, All, IfOk, OnOk};
+ghost use Rattle.std.specs.Prelude.{◌≡◌, ◌<◌, ◌≤◌, ◌++◌, length, map, slice_get, unwrap_or, Some, All, IfOk, OnOk};
 ghost use Rattle.std.specs.List.{AllZip};
 ghost use Rattle.core_terms.specs.Programs.{type_names, types_in};
+ghost use Rattle.core_terms.specs.TypeTables.{type_at};
 ghost use Rattle.auth_syntax.specs.Trees as written;
 ghost use Rattle.declared_types.specs.Checking.{Sound};
 ghost use Rattle.declared_types.specs.Declarations.{checked_declarations, nothing_declared};
@@ -11,10 +12,11 @@ ghost use Rattle.declared_types.specs.OverTypes.{AreNumbers, Grows, functions_wr
 ghost use Rattle.declared_types.specs.ScopeNames.{constructor_meant, constructors_meant, names_in, numbered, tagged};
 ghost use Rattle.declared_types.specs.Scopes.{IsWithin, functions_meant, scope_in, scope_meant};
 ghost use Rattle.declared_types.specs.WrittenTypes as defined;
-ghost use Rattle.declared_types.specs.WrittenTypes.{number_of, type_meant};
+ghost use Rattle.declared_types.specs.WrittenTypes.{array_meant, number_of, type_meant};
 
 use crate::declarations::Declared;
 use crate::scope::{ConstructorId, Head, Scope};
+use crate::written_types::may_have;
 use auth_syntax::tree::{
     ConstructorDeclaration, Declaration, Function, Parameter, TypeDeclaration, TypeTree,
 };
@@ -32,7 +34,7 @@ pub(crate) fn declared_scope<'a>(
     requires { checked_declarations nothing_declared (map written.declaration_of declarations.now) ≡ Sound (declared_of declared.value) }
     ensures grows { Grows (types_in types.old) (types_in types.new) }
     ensures format { types.new.format ≡ types.old.format }
-    ensures scope { IfOk result (λ scope. scope_meant (types_in types.new) scope.value ≡ scope_in (map written.declaration_of declarations.now)) }
+    ensures scope { IfOk result (λ scope. scope_meant types.old.format (types_in types.new) scope.value ≡ scope_in types.old.format (map written.declaration_of declarations.now)) }
     ensures functions { IfOk result (λ scope. functions_meant scope.value ≡ functions_written declarations.now) }
     ensures names { IfOk result (λ scope. type_names scope.value.named.items ≡ defined.type_names (map written.declaration_of declarations.now)) }
     ensures within { IfOk result (λ scope. IsWithin (length (types_in types.new)) scope.value) }
@@ -56,7 +58,8 @@ pub(crate) fn declared_scope<'a>(
     Ok(Box::new(alloc, scope)?)
 }
 
-/// The number of a written type, where the named types have these names. A name that none has stands for the first type.
+/// The number of a written type, where the named types have these names. A name that none has stands for the first type, and an array that
+/// the program may not have for its elements.
 pub(crate) fn number(
     types: &mut TyTable,
     names: &IndexSet<&[u8]>,
@@ -64,7 +67,7 @@ pub(crate) fn number(
 ) -> Result<TyId, AllocError>
     ensures grows { Grows (types_in types.old) (types_in types.new) }
     ensures format { types.new.format ≡ types.old.format }
-    ensures found { IfOk result (λ id. slice_get (types_in types.new) id.0 ≡ Some (type_meant (names_in names.now.keys) (written.type_of tree.now))) }
+    ensures found { IfOk result (λ id. slice_get (types_in types.new) id.0 ≡ Some (type_meant types.old.format (names_in names.now.keys) (written.type_of tree.now))) }
 {
     match tree {
         TypeTree::UnitType(_) => types.intern(TyForm::UnitForm),
@@ -81,6 +84,24 @@ pub(crate) fn number(
             let second = number(types, names, second)?;
             types.intern(TyForm::PairForm(first, second))
         }
+        TypeTree::VecType(_, length, item) => {
+            let part = number(types, names, item)?;
+            array_number(types, *length, part)
+        }
+    }
+}
+
+/// The number of the type of arrays of so many elements of this type, where the program may have it; else that of the elements.
+fn array_number(types: &mut TyTable, count: u8, part: TyId) -> Result<TyId, AllocError>
+    requires { part.0 < length (types_in types.old) }
+    ensures grows { Grows (types_in types.old) (types_in types.new) }
+    ensures format { types.new.format ≡ types.old.format }
+    ensures found { IfOk result (λ id. slice_get (types_in types.new) id.0 ≡ Some (array_meant types.old.format count (type_at (types_in types.old) part))) }
+{
+    if may_have(types.format(), count) {
+        types.intern(TyForm::VecForm(count, part))
+    } else {
+        Ok(part)
     }
 }
 
@@ -103,7 +124,7 @@ fn numbers(
 ) -> Result<Vec<TyId>, AllocError>
     ensures grows { Grows (types_in types.old) (types_in types.new) }
     ensures format { types.new.format ≡ types.old.format }
-    ensures found { IfOk result (λ ids. AreNumbers (types_in types.new) ids.items (map (type_meant (names_in names.now.keys)) (map written.type_of trees.now))) }
+    ensures found { IfOk result (λ ids. AreNumbers (types_in types.new) ids.items (map (type_meant types.old.format (names_in names.now.keys)) (map written.type_of trees.now))) }
 {
     let mut ids = Vec::new(alloc);
     for tree in trees {
@@ -121,7 +142,7 @@ fn parameter_numbers(
 ) -> Result<Vec<TyId>, AllocError>
     ensures grows { Grows (types_in types.old) (types_in types.new) }
     ensures format { types.new.format ≡ types.old.format }
-    ensures found { IfOk result (λ ids. AreNumbers (types_in types.new) ids.items (map (λ p. type_meant (names_in names.now.keys) p.of_type) (map written.parameter_of parameters.now))) }
+    ensures found { IfOk result (λ ids. AreNumbers (types_in types.new) ids.items (map (λ p. type_meant types.old.format (names_in names.now.keys) p.of_type) (map written.parameter_of parameters.now))) }
 {
     let mut ids = Vec::new(alloc);
     for parameter in parameters {
@@ -139,7 +160,7 @@ fn named_types(
 ) -> Result<Vec<NamedType>, AllocError>
     ensures grows { Grows (types_in types.old) (types_in types.new) }
     ensures format { types.new.format ≡ types.old.format }
-    ensures found { IfOk result (λ named. AreNamedOf (names_in names.now.keys) (types_in types.new) (map written.declaration_of declarations.now) named.items) }
+    ensures found { IfOk result (λ named. AreNamedOf types.old.format (names_in names.now.keys) (types_in types.new) (map written.declaration_of declarations.now) named.items) }
 {
     let mut named = Vec::new(alloc);
     for declaration in declarations {
@@ -159,7 +180,7 @@ fn named_type(
 ) -> Result<NamedType, AllocError>
     ensures grows { Grows (types_in types.old) (types_in types.new) }
     ensures format { types.new.format ≡ types.old.format }
-    ensures found { IfOk result (λ named. IsNamedOf (names_in names.now.keys) (types_in types.new) (record { name = written.name_of declared.now.name; constructors = written.constructors_of declared.now.constructors }) named) }
+    ensures found { IfOk result (λ named. IsNamedOf types.old.format (names_in names.now.keys) (types_in types.new) (record { name = written.name_of declared.now.name; constructors = written.constructors_of declared.now.constructors }) named) }
 {
     let constructors = constructors(alloc, types, names, &declared.constructors)?;
     let name = declared.name.name.copied(alloc)?;
@@ -175,7 +196,7 @@ fn constructors(
 ) -> Result<Vec<Constructor>, AllocError>
     ensures grows { Grows (types_in types.old) (types_in types.new) }
     ensures format { types.new.format ≡ types.old.format }
-    ensures found { IfOk result (λ constructors. AreConstructorsOf (names_in names.now.keys) (types_in types.new) (map written.constructor_of declared.now) constructors.items) }
+    ensures found { IfOk result (λ constructors. AreConstructorsOf types.old.format (names_in names.now.keys) (types_in types.new) (map written.constructor_of declared.now) constructors.items) }
 {
     let mut constructors = Vec::new(alloc);
     for one in declared {
@@ -193,7 +214,7 @@ fn constructor(
 ) -> Result<Constructor, AllocError>
     ensures grows { Grows (types_in types.old) (types_in types.new) }
     ensures format { types.new.format ≡ types.old.format }
-    ensures found { IfOk result (λ constructor. IsConstructorOf (names_in names.now.keys) (types_in types.new) (written.constructor_of declared.now) constructor) }
+    ensures found { IfOk result (λ constructor. IsConstructorOf types.old.format (names_in names.now.keys) (types_in types.new) (written.constructor_of declared.now) constructor) }
 {
     let fields = numbers(alloc, types, names, &declared.fields)?;
     let name = declared.name.name.copied(alloc)?;
@@ -209,7 +230,7 @@ fn heads<'a>(
 ) -> Result<Vec<Head<'a>>, AllocError>
     ensures grows { Grows (types_in types.old) (types_in types.new) }
     ensures format { types.new.format ≡ types.old.format }
-    ensures found { IfOk result (λ heads. AllZip (IsHeadOf (names_in names.now.keys) (types_in types.new)) (functions_written declarations.now) heads.items) }
+    ensures found { IfOk result (λ heads. AllZip (IsHeadOf types.old.format (names_in names.now.keys) (types_in types.new)) (functions_written declarations.now) heads.items) }
 {
     let mut heads = Vec::new(alloc);
     for declaration in declarations {
@@ -229,7 +250,7 @@ fn head<'a>(
 ) -> Result<Head<'a>, AllocError>
     ensures grows { Grows (types_in types.old) (types_in types.new) }
     ensures format { types.new.format ≡ types.old.format }
-    ensures found { IfOk result (λ head. IsHeadOf (names_in names.now.keys) (types_in types.new) (written.function_of function.now) head) }
+    ensures found { IfOk result (λ head. IsHeadOf types.old.format (names_in names.now.keys) (types_in types.new) (written.function_of function.now) head) }
 {
     let parameters = parameter_numbers(alloc, types, names, &function.parameters)?;
     let result = number(types, names, &function.result_type)?;

@@ -1,7 +1,7 @@
 // The first three passes over the tree of a program.
 ghost use Rattle.std.specs.Prelude.{◌≡◌, ◌≢◌, ℕ, List, [], IfOk, map};
 ghost use Rattle.core_terms.specs.Programs.{types_in};
-ghost use Rattle.core_terms.specs.declared.format.Format.TheVariants.{First};
+ghost use Rattle.core_terms.specs.declared.format.Format.{Format};
 ghost use Rattle.auth_syntax.specs.Trees as written;
 ghost use Rattle.declared_types.specs.Checking.{Sound};
 ghost use Rattle.declared_types.specs.Declarations.{checked_declarations, nothing_declared};
@@ -41,8 +41,15 @@ pub fn known_names(alloc: Global, ast: &Ast) -> Result<Box<Declared<'_>>, TypeFa
     ensures declared { IfOk result (λ declared. checked_declarations nothing_declared (written.declarations_of ast.now.declarations) ≡ Sound (declared_of declared.value)) }
 {
     let declared = first_pass(alloc, &ast.declarations, ast.end)?;
-    second_pass(&declared.types, &ast.declarations)?;
+    second_pass(format_of(ast), &declared.types, &ast.declarations)?;
     Ok(declared)
+}
+
+/// The format of a program, which is the first where it tells none.
+fn format_of(ast: &Ast) -> Format
+    ensures { result ≡ specified.format_of (written.program_of ast.now) }
+{
+    ast.format.unwrap_or(Format::First)
 }
 
 /// The third pass, over a tree that declares these names: what it declares for its bodies.
@@ -58,10 +65,10 @@ pub fn checked_scope<'a>(
     requires known { names_known (written.program_of ast.now) ≡ Sound tt }
     requires declared { checked_declarations nothing_declared (written.declarations_of ast.now.declarations) ≡ Sound (declared_of declared.value) }
     ensures found { Finds (λ _. tt) (specified.third_pass (written.program_of ast.now)) result }
-    ensures format { IfOk result (λ shaped. shaped.types.value.format ≡ First) }
+    ensures format { IfOk result (λ shaped. shaped.types.value.format ≡ specified.format_of (written.program_of ast.now)) }
     ensures shaped { IfOk result (λ shaped. TableStandsFor (written.program_of ast.now) (types_in shaped.types.value) shaped.scope.value shaped.state) }
 {
-    let mut types = Box::new(alloc, TyTable::new(Format::First, alloc))?;
+    let mut types = Box::new(alloc, TyTable::new(format_of(ast), alloc))?;
     let state = number(
         &mut types,
         &declared.types,
@@ -79,7 +86,7 @@ pub fn checked_scope<'a>(
 /// The written type of the first state, where there is one.
 fn declared_state(declarations: &[Declaration]) -> &TypeTree
     requires { states_in (map written.declaration_of declarations.now) ≢ [] }
-    ensures { (names : List (List ℕ)) → type_meant names (written.type_of result.now) ≡ first_state names (states_in (map written.declaration_of declarations.now)) }
+    ensures { (format : Format) (names : List (List ℕ)) → type_meant format names (written.type_of result.now) ≡ first_state format names (states_in (map written.declaration_of declarations.now)) }
 {
     for declaration in declarations {
         if let Declaration::State(_, tree) = declaration {

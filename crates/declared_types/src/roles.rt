@@ -1,10 +1,11 @@
 // The third pass: the shapes of roles, and their arguments.
-ghost use Rattle.std.specs.Prelude.{◌≡◌, ◌<◌, ◌&&◌, ℕ, List, [], false, length, slice_index_or};
+ghost use Rattle.std.specs.Prelude.{◌≡◌, ◌<◌, ◌&&◌, ℕ, List, false, length, slice_index_or};
 ghost use Rattle.core_terms.specs.AuthMarks.{AreAuthMarks};
 ghost use Rattle.core_terms.specs.Programs.{types_in};
 ghost use Rattle.core_terms.specs.ProgramTrees.{table_of};
 ghost use Rattle.core_terms.specs.TypeTables.{type_at};
 ghost use Rattle.core_terms.specs.Typing.{same_type};
+ghost use Rattle.core_terms.specs.declared.format.Format.{Format};
 ghost use Rattle.auth_syntax.specs.Syntax.{InitSyntax, QuerySyntax, UpdateSyntax};
 ghost use Rattle.auth_syntax.specs.Trees as written;
 ghost use Rattle.declared_types.specs.Findings.{Finds};
@@ -35,8 +36,8 @@ pub(crate) fn third_pass(
 ) -> Result<(), TypeFault>
     requires within { IsWithin (length (types_in types.now)) scope.now }
     requires state { state.0 < length (types_in types.now) }
-    ensures { (names : List (List ℕ)) → AreHeadsOf names (types_in types.now) scope.now
-        → Finds (λ _. tt) (checked_roles names (table_of (types_in types.now) scope.now.named.items) (type_at (types_in types.now) state) (functions_meant scope.now)) result }
+    ensures { (format : Format) (names : List (List ℕ)) → AreHeadsOf format names (types_in types.now) scope.now
+        → Finds (λ _. tt) (checked_roles format names (table_of (types_in types.now) scope.now.named.items) (type_at (types_in types.now) state) (functions_meant scope.now)) result }
 {
     let marks = auth_marks(types, &scope.named, alloc)?;
     for head in &scope.heads {
@@ -137,7 +138,7 @@ fn is_update(types: &TyTable, state: TyId, first: TyId, gives: TyId) -> bool
     requires state { state.0 < length (types_in types.now) }
     requires first { first.0 < length (types_in types.now) }
     requires gives { gives.0 < length (types_in types.now) }
-    ensures { result ≡ same_type (type_at (types_in types.now) state) (type_at (types_in types.now) first) && is_new_state [] [] (type_at (types_in types.now) state) (type_at (types_in types.now) gives) }
+    ensures { result ≡ same_type (type_at (types_in types.now) state) (type_at (types_in types.now) first) && is_new_state (type_at (types_in types.now) state) (type_at (types_in types.now) gives) }
 {
     is_same(types, state, first) && is_new_state(types, state, gives)
 }
@@ -146,7 +147,7 @@ fn is_update(types: &TyTable, state: TyId, first: TyId, gives: TyId) -> bool
 fn is_new_state(types: &TyTable, state: TyId, gives: TyId) -> bool
     requires state { state.0 < length (types_in types.now) }
     requires gives { gives.0 < length (types_in types.now) }
-    ensures { result ≡ is_new_state [] [] (type_at (types_in types.now) state) (type_at (types_in types.now) gives) }
+    ensures { result ≡ is_new_state (type_at (types_in types.now) state) (type_at (types_in types.now) gives) }
 {
     match types.form(gives) {
         TyForm::PairForm(new, _) => is_same(types, state, new),

@@ -39,13 +39,13 @@ pub struct Scope<'a> {
 impl<'a> Scope<'a> {
     ghost use Rattle.std.specs.Prelude.{◌<◌, ℕ, List, [], length, map, option_map, slice_get, Some, unwrap_or, All, IfSome};
     ghost use Rattle.core_terms.specs.Types.{Ty, fields_at};
-    ghost use Rattle.core_terms.specs.ProgramTrees.{types_at};
+    ghost use Rattle.core_terms.specs.ProgramTrees.{table_of, types_at};
     ghost use Rattle.declared_types.specs.Signatures.{constructor_named, function_named};
-    ghost use Rattle.declared_types.specs.Scopes.{AreWithin, IsConstructorWithin, IsHeadWithin, IsWithin, function_meant, scope_meant, signature_meant};
+    ghost use Rattle.declared_types.specs.Scopes.{AreWithin, IsConstructorWithin, IsHeadWithin, IsWithin, function_meant, signature_meant, signatures_meant};
 
     /// The function of a name.
     pub fn function(&self, name: &Name) -> Option<FunctionId>
-        ensures found { (types : List Ty) → function_named 0 (scope_meant types self.now).functions name.now ≡ option_map (function_meant types self.now) result }
+        ensures found { (types : List Ty) → function_named 0 (signatures_meant types self.now) name.now ≡ option_map (function_meant types self.now) result }
         ensures inside { IfSome result (λ id. id.0 < length self.now.heads.items) }
     {
         match self.function_names.get_index_of(name.as_bytes()) {
@@ -77,7 +77,7 @@ impl<'a> Scope<'a> {
     /// The constructors of a named type, by tag; none where there is no such type.
     pub fn constructors(&self, id: NamedId) -> &[Constructor]
         ensures names { map (λ (c : Constructor). c.name) result.now ≡ unwrap_or (slice_get (constructors_meant self.now.named.items) id.0) [] }
-        ensures fields { (types : List Ty) → map (λ (c : Constructor). types_at types c.fields.items) result.now ≡ unwrap_or (slice_get (scope_meant types self.now).table id.0) [] }
+        ensures fields { (types : List Ty) → map (λ (c : Constructor). types_at types c.fields.items) result.now ≡ unwrap_or (slice_get (table_of types self.now.named.items) id.0) [] }
         ensures within { (count : ℕ) → IsWithin count self.now → All (IsConstructorWithin count) result.now }
     {
         match self.named.get(id.0) {
@@ -88,7 +88,7 @@ impl<'a> Scope<'a> {
 
     /// The numbers of the types of a constructor's fields; none where there is no such constructor.
     pub fn fields(&self, id: ConstructorId) -> &[TyId]
-        ensures fields { (types : List Ty) → types_at types result.now ≡ unwrap_or (fields_at (scope_meant types self.now).table id.named.0 id.tag.0) [] }
+        ensures fields { (types : List Ty) → types_at types result.now ≡ unwrap_or (fields_at (table_of types self.now.named.items) id.named.0 id.tag.0) [] }
         ensures within { (count : ℕ) → IsWithin count self.now → AreWithin count result.now }
     {
         match self.constructors(id.named).get(id.tag.0 as usize) {

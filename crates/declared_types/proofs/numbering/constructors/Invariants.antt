@@ -10,5 +10,5 @@ abbrev pub invariant-loop-one : goal.invariant-loop-one
 invariant-loop-one l = record {
   grows : Grows (types_in l.initial.types) (types_in l.types);
   format : l.types.format ≡ l.initial.types.format;
-  found : AreConstructorsOf (names_in l.names.keys) (types_in l.types) (map constructor_of (take l.one-index l.declared)) l.constructors.items;
+  found : AreConstructorsOf l.initial.types.format (names_in l.names.keys) (types_in l.types) (map constructor_of (take l.one-index l.declared)) l.constructors.items;
 }

@@ -10,8 +10,8 @@ pub returns-clause-found : goal.returns-clause-found
 returns-clause-found c = record {
   function = refl;
   parameters = numbers_grow _ _ c.in_ok-parameters.parameters.items
-      (map (λ (p : ParameterSyntax). type_meant (names_in c.args.names.now.keys) p.of_type) (map parameter_of c.args.function.now.parameters.items))
+      (map (λ (p : ParameterSyntax). type_meant c.args.types.now.format (names_in c.args.names.now.keys) p.of_type) (map parameter_of c.args.function.now.parameters.items))
       c.number.ensures.grows
       (rw c.deref.ensures.value at c.in_ok-parameters.ensures.found);
-  result = c.in_ok-result.ensures.found;
+  result = rw c.parameter_numbers.ensures.format at c.in_ok-result.ensures.found;
 }

@@ -12,14 +12,14 @@ loop-declaration-preserved c = elim c.match-declaration.branch [
     format = rw w.types-is (w.head.ensures.format ∙ c.loop-declaration.invariant.format);
     found = rw (w.types-is, w.heads-is, w.in_ok-push.ensures.items)
         (head_taken c.args.declarations.now c.loop-declaration.declaration-index c.declaration-item.result c.loop-declaration-test.true
-        c.declaration-item.is (names_in c.args.names.now.keys) _ _ c.loop-declaration.heads.items _ _ w.in-Function.function
-        w.head.ensures.grows w.in-Function.is c.loop-declaration.invariant.found w.in_ok-head.ensures.found);
+        c.declaration-item.is c.args.types.now.format (names_in c.args.names.now.keys) _ _ c.loop-declaration.heads.items _ _ w.in-Function.function
+        w.head.ensures.grows w.in-Function.is c.loop-declaration.invariant.found (rw c.loop-declaration.invariant.format at w.in_ok-head.ensures.found));
   }
   | in_default w ↦ record {
     grows = rw w.types-is c.loop-declaration.invariant.grows;
     format = rw w.types-is c.loop-declaration.invariant.format;
     found = rw (w.types-is, w.heads-is) (heads_passed c.args.declarations.now c.loop-declaration.declaration-index c.declaration-item.result
-        c.loop-declaration-test.true c.declaration-item.is (names_in c.args.names.now.keys) _ c.loop-declaration.heads.items
+        c.loop-declaration-test.true c.declaration-item.is c.args.types.now.format (names_in c.args.names.now.keys) _ c.loop-declaration.heads.items
         w.in_default.not-Function c.loop-declaration.invariant.found);
   }
 ]

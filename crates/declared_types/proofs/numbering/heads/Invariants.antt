@@ -10,5 +10,5 @@ abbrev pub invariant-loop-declaration : goal.invariant-loop-declaration
 invariant-loop-declaration l = record {
   grows : Grows (types_in l.initial.types) (types_in l.types);
   format : l.types.format ≡ l.initial.types.format;
-  found : AllZip (IsHeadOf (names_in l.names.keys) (types_in l.types)) (functions_written (take l.declaration-index l.declarations)) l.heads.items;
+  found : AllZip (IsHeadOf l.initial.types.format (names_in l.names.keys) (types_in l.types)) (functions_written (take l.declaration-index l.declarations)) l.heads.items;
 }

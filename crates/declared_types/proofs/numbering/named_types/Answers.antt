@@ -12,14 +12,14 @@ loop-declaration-preserved c = elim c.match-declaration.branch [
     format = rw w.types-is (w.named_type.ensures.format ∙ c.loop-declaration.invariant.format);
     found = rw (w.types-is, w.named-is, w.in_ok-push.ensures.items)
         (named_taken c.args.declarations.now c.loop-declaration.declaration-index c.declaration-item.result c.loop-declaration-test.true
-        c.declaration-item.is (names_in c.args.names.now.keys) _ _ c.loop-declaration.named.items _ _ w.in-Type.declared
-        w.named_type.ensures.grows w.in-Type.is c.loop-declaration.invariant.found w.in_ok-named_type.ensures.found);
+        c.declaration-item.is c.args.types.now.format (names_in c.args.names.now.keys) _ _ c.loop-declaration.named.items _ _ w.in-Type.declared
+        w.named_type.ensures.grows w.in-Type.is c.loop-declaration.invariant.found (rw c.loop-declaration.invariant.format at w.in_ok-named_type.ensures.found));
   }
   | in_default w ↦ record {
     grows = rw w.types-is c.loop-declaration.invariant.grows;
     format = rw w.types-is c.loop-declaration.invariant.format;
     found = rw (w.types-is, w.named-is) (named_passed c.args.declarations.now c.loop-declaration.declaration-index c.declaration-item.result
-        c.loop-declaration-test.true c.declaration-item.is (names_in c.args.names.now.keys) _ c.loop-declaration.named.items
+        c.loop-declaration-test.true c.declaration-item.is c.args.types.now.format (names_in c.args.names.now.keys) _ c.loop-declaration.named.items
         w.in_default.not-Type c.loop-declaration.invariant.found);
   }
 ]

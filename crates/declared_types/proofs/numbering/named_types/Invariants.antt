@@ -10,5 +10,5 @@ abbrev pub invariant-loop-declaration : goal.invariant-loop-declaration
 invariant-loop-declaration l = record {
   grows : Grows (types_in l.initial.types) (types_in l.types);
   format : l.types.format ≡ l.initial.types.format;
-  found : AreNamedOf (names_in l.names.keys) (types_in l.types) (map declaration_of (take l.declaration-index l.declarations)) l.named.items;
+  found : AreNamedOf l.initial.types.format (names_in l.names.keys) (types_in l.types) (map declaration_of (take l.declaration-index l.declarations)) l.named.items;
 }

@@ -11,7 +11,7 @@ loop-tree-preserved c = record {
   grows = grows_on _ _ _ c.loop-tree.invariant.grows c.number.ensures.grows;
   format = c.number.ensures.format ∙ c.loop-tree.invariant.format;
   found = rw c.in_ok-push.ensures.items
-      (numbers_taken _ _ (type_meant (names_in c.args.names.now.keys)) type_of c.args.trees.now c.loop-tree.tree-index _ c.in_ok-number.field-0
+      (numbers_taken _ _ (type_meant c.args.types.now.format (names_in c.args.names.now.keys)) type_of c.args.trees.now c.loop-tree.tree-index _ c.in_ok-number.field-0
       c.tree-item.result c.number.ensures.grows c.loop-tree-test.true c.tree-item.is
-      c.loop-tree.invariant.found c.in_ok-number.ensures.found);
+      c.loop-tree.invariant.found (rw c.loop-tree.invariant.format at c.in_ok-number.ensures.found));
 }

@@ -10,5 +10,5 @@ abbrev pub invariant-loop-tree : goal.invariant-loop-tree
 invariant-loop-tree l = record {
   grows : Grows (types_in l.initial.types) (types_in l.types);
   format : l.types.format ≡ l.initial.types.format;
-  found : AreNumbers (types_in l.types) l.ids.items (map (type_meant (names_in l.names.keys)) (map type_of (take l.tree-index l.trees)));
+  found : AreNumbers (types_in l.types) l.ids.items (map (type_meant l.initial.types.format (names_in l.names.keys)) (map type_of (take l.tree-index l.trees)));
 }

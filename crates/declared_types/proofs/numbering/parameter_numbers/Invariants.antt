@@ -11,6 +11,6 @@ abbrev pub invariant-loop-parameter : goal.invariant-loop-parameter
 invariant-loop-parameter l = record {
   grows : Grows (types_in l.initial.types) (types_in l.types);
   format : l.types.format ≡ l.initial.types.format;
-  found : AreNumbers (types_in l.types) l.ids.items (map (λ (p : ParameterSyntax). type_meant (names_in l.names.keys) p.of_type)
+  found : AreNumbers (types_in l.types) l.ids.items (map (λ (p : ParameterSyntax). type_meant l.initial.types.format (names_in l.names.keys) p.of_type)
       (map parameter_of (take l.parameter-index l.parameters)));
 }

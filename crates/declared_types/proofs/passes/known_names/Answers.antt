@@ -5,7 +5,7 @@ use Rattle.auth_syntax.specs.Trees.{declaration_of, program_of}
 use Rattle.auth_syntax.specs.declared.tree.Declaration.{Declaration}
 use Rattle.declared_types.specs.Checking.{Sound}
 use Rattle.declared_types.specs.DeclaredPrograms.{names_of}
-use Rattle.declared_types.specs.Declarations.{first_pass}
+use Rattle.declared_types.specs.Declarations.{checked_whole, first_pass}
 use Rattle.declared_types.specs.ScopeNames.{names_in}
 use Rattle.declared_types.specs.WrittenTypes.{known_declarations}
 use Rattle.declared_types.specs.declared.declarations.Declared.{Declared}
@@ -20,7 +20,7 @@ returns-in_err-declared-clause-found c =
     let end = c.args.ast.now.end in
     finds_refused (λ _. tt) _ fault _ (p.1 ∙ ap Err p.2)
     (first_fault (program_of c.args.ast.now) fault
-    (subst (λ (ds : List Declaration). IsRefused (first_pass (record { declarations = map declaration_of ds; end = end })) fault)
+    (subst (λ (ds : List Declaration). IsRefused (checked_whole (map declaration_of ds) end) fault)
     c.deref.ensures.value
     c.in_err-declared.ensures.found))
 
@@ -34,10 +34,10 @@ returns-in_err-second_pass-clause-found c =
     types_named declared program.declarations (rw c.deref.ensures.value at c.in_ok-declared.ensures.declared) in
     let first : first_pass program ≡ Sound tt = rw c.deref.ensures.value at c.in_ok-declared.ensures.found in
     finds_refused (λ _. tt) _ fault _ (p.1 ∙ ap Err p.2)
-    (subst (λ found. IsRefused found fault) (second_known program first (names_in declared.types.keys) names)
-    (subst (λ (ds : List Declaration). IsRefused (known_declarations (names_in declared.types.keys) (map declaration_of ds)) fault)
+    (subst (λ found. IsRefused found fault) (second_known program first c.format_of.result (names_in declared.types.keys) c.format_of.ensures names)
+    (subst (λ (ds : List Declaration). IsRefused (known_declarations c.format_of.result (names_in declared.types.keys) (map declaration_of ds)) fault)
     c.deref-3.ensures.value
-    (subst (λ (d : Declared). IsRefused (known_declarations (names_in d.types.keys) (map declaration_of c.deref-3.result.now)) fault)
+    (subst (λ (d : Declared). IsRefused (known_declarations c.format_of.result (names_in d.types.keys) (map declaration_of c.deref-3.result.now)) fault)
     c.deref-2.ensures c.in_err-second_pass.ensures)))
 
 pub returns-clause-found : goal.returns-clause-found
@@ -47,9 +47,9 @@ returns-clause-found c =
     let names : names_in declared.types.keys ≡ names_of program =
     types_named declared program.declarations (rw c.deref.ensures.value at c.in_ok-declared.ensures.declared) in
     let first : first_pass program ≡ Sound tt = rw c.deref.ensures.value at c.in_ok-declared.ensures.found in
-    sym (second_known program first (names_in declared.types.keys) names)
-    ∙ sym (ap (λ (d : Declared). known_declarations (names_in d.types.keys) program.declarations) c.deref-2.ensures)
-    ∙ sym (ap (λ (ds : List Declaration). known_declarations (names_in c.deref-2.result.now.types.keys) (map declaration_of ds))
+    sym (second_known program first c.format_of.result (names_in declared.types.keys) c.format_of.ensures names)
+    ∙ sym (ap (λ (d : Declared). known_declarations c.format_of.result (names_in d.types.keys) program.declarations) c.deref-2.ensures)
+    ∙ sym (ap (λ (ds : List Declaration). known_declarations c.format_of.result (names_in c.deref-2.result.now.types.keys) (map declaration_of ds))
     c.deref-3.ensures.value)
     ∙ c.in_ok-second_pass.ensures
 

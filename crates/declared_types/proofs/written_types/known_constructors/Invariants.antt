@@ -5,5 +5,5 @@ use Rattle.declared_types.specs.WrittenTypes.{known_constructors}
 use Rattle.declared_types.proofs.written_types.known_constructors.Given as goal
 
 abbrev pub invariant-loop-constructor : goal.invariant-loop-constructor
-invariant-loop-constructor l = known_constructors (names_in l.names.keys) (map constructor_of l.constructors) ≡ known_constructors
+invariant-loop-constructor l = known_constructors l.format (names_in l.names.keys) (map constructor_of l.constructors) ≡ known_constructors l.format
     (names_in l.names.keys) (map constructor_of (drop l.constructor-index l.constructors))
