@@ -42,12 +42,13 @@ pub locals_more : (m n : ℕ) (locals : List CodeLocal) → m ≤ n → AreLocal
 locals_more m n locals more within = λ k d inside. let below = within k d inside in omega (arith, below)
 
 -- more types, the same scope and the same locals
-pub keeps_grown : (a b : Elaborator) → Grows (types_of a) (types_of b) → b.scope.now ≡ a.scope.now → b.locals.items ≡ a.locals.items
+pub keeps_grown : (a b : Elaborator) → b.types.format ≡ a.types.format → Grows (types_of a) (types_of b) → b.scope.now ≡ a.scope.now → b.locals.items ≡ a.locals.items
     → IsWithin (length (types_of a)) a.scope.now → AreLocalsWithin (length (types_of a)) a.locals.items → Keeps a b
 unfolding scope_of locals_of
-keeps_grown a b grows scope locals within inside = record {
+keeps_grown a b format grows scope locals within inside = record {
   grows = grows;
-  scope = ap (scope_meant (types_of b)) scope ∙ scope_stays (types_of a) (types_of b) grows a.scope.now within;
+  scope = ap (λ f. scope_meant f (types_of b) b.scope.now) format ∙ ap (scope_meant a.types.format (types_of b)) scope
+      ∙ scope_stays (types_of a) (types_of b) grows a.types.format a.scope.now within;
   locals = ap (locals_meant (types_of b)) locals ∙ locals_stay (types_of a) (types_of b) a.locals.items grows inside;
 }
 
@@ -77,7 +78,7 @@ locals_one a b l same is = ap (λ (table : TyTable). locals_meant (types_in tabl
 
 pub scope_same : (a b : Elaborator) → b.types ≡ a.types → b.scope.now ≡ a.scope.now → scope_of b ≡ scope_of a
 unfolding scope_of
-scope_same a b same is = ap (λ (table : TyTable). scope_meant (types_in table) b.scope.now) same ∙ ap (scope_meant (types_of a)) is
+scope_same a b same is = ap (λ (table : TyTable). scope_meant table.format (types_in table) b.scope.now) same ∙ ap (scope_meant a.types.format (types_of a)) is
 
 -- a name among those of the locals behind the first ones
 pub among_locals : (e : Elaborator) (n : ℕ) (name : List ℕ) → is_among name (names_of (drop n (locals_of e))) ≡ list_any
@@ -104,7 +105,7 @@ keeps_closed a inner end closed n grows scope outer k types_is scope_is locals_i
 pub one_outer : (before inner : List Local) (l : Local) → inner ≡ before ++ l ∷ [] → take (length before) inner ≡ before
 one_outer before inner l is = ap (take (length before)) is ∙ take-append_seam before (l ∷ [])
 
--- the scope over the types that there are
-pub scope_is : (e : Elaborator) → scope_of e ≡ scope_meant (types_of e) e.scope.now
+-- the scope, in the table's format and over its types
+pub scope_is : (e : Elaborator) → scope_of e ≡ scope_meant e.types.format (types_of e) e.scope.now
 unfolding scope_of
 scope_is e = refl

@@ -2,6 +2,7 @@
 use Rattle.std.proofs.Common.{◌≡◌, ℕ, zero, suc, ◌+◌, ◌<◌, List, [], ◌∷◌, ◌++◌, length, map, drop, take, slice_index_or, Result, Err, refl, sym, ap, ◌∙◌, arith, append_assoc}
 use Rattle.std.proofs.lemmas.List.{append-nil, map-append}
 use Rattle.core_terms.specs.Types.{Ty}
+use Rattle.core_terms.specs.declared.format.Format.{Format}
 use Rattle.core_terms.specs.Terms as tree
 use Rattle.core_terms.specs.TypeTables.{type_at}
 use Rattle.core_terms.specs.ProgramTrees.{expression_of, function_of, kind_of, types_at}
@@ -32,14 +33,14 @@ entered (p ∷ ps) (t ∷ ts) = record { name = p.name.name; of_type = t } ∷ e
 entered ps ts = []
 
 -- the types that parameters are written with
-abbrev pub types_written : List (List ℕ) → List Parameter → List Ty
-types_written names ps = map (λ (p : ParameterSyntax). type_meant names p.of_type) (map written.parameter_of ps)
+abbrev pub types_written : Format → List (List ℕ) → List Parameter → List Ty
+types_written format names ps = map (λ (p : ParameterSyntax). type_meant format names p.of_type) (map written.parameter_of ps)
 
-pub entered_all : (names : List (List ℕ)) (ps : List Parameter) → entered ps (types_written names ps) ≡ parameter_locals names
+pub entered_all : (format : Format) (names : List (List ℕ)) (ps : List Parameter) → entered ps (types_written format names ps) ≡ parameter_locals format names
     (map written.parameter_of ps)
-entered_all names [] = refl
-entered_all names (p ∷ ps) = ap (λ ls. record { name = p.name.name; of_type = type_meant names (written.type_of p.of_type) } ∷ ls)
-    (entered_all names ps)
+entered_all format names [] = refl
+entered_all format names (p ∷ ps) = ap (λ ls. record { name = p.name.name; of_type = type_meant format names (written.type_of p.of_type) } ∷ ls)
+    (entered_all format names ps)
 
 -- one parameter more, and the last one
 pub entered_more : (ps : List Parameter) (ts : List Ty) (i : ℕ) (p : Parameter) (t : Ty) (locals inner all : List Local)
@@ -51,12 +52,12 @@ entered_more ps ts i p t locals inner all here there so_far is =
     ∙ append_assoc locals (record { name = p.name.name; of_type = t } ∷ []) (entered (drop (i + 1) ps) (drop (i + 1) ts))
     ∙ sym (ap (λ l. locals ++ entered l (drop i ts)) here ∙ ap (λ l. locals ++ entered (p ∷ drop (i + 1) ps) l) there) ∙ so_far
 
-pub entered_last : (names : List (List ℕ)) (ps : List Parameter) (ts : List Ty) (i : ℕ) (before locals : List Local) → drop i ps ≡ [] → before ≡ []
-    → ts ≡ types_written names ps
-    → locals ++ entered (drop i ps) (drop i ts) ≡ before ++ entered ps ts → locals ≡ parameter_locals names (map written.parameter_of ps)
-entered_last names ps ts i before locals none nothing same so_far =
+pub entered_last : (format : Format) (names : List (List ℕ)) (ps : List Parameter) (ts : List Ty) (i : ℕ) (before locals : List Local) → drop i ps ≡ [] → before ≡ []
+    → ts ≡ types_written format names ps
+    → locals ++ entered (drop i ps) (drop i ts) ≡ before ++ entered ps ts → locals ≡ parameter_locals format names (map written.parameter_of ps)
+entered_last format names ps ts i before locals none nothing same so_far =
     sym (append-nil locals) ∙ sym (ap (λ l. locals ++ entered l (drop i ts)) none) ∙ so_far ∙ ap (λ ls. ls ++ entered ps ts) nothing
-    ∙ ap (entered ps) same ∙ entered_all names ps
+    ∙ ap (entered ps) same ∙ entered_all format names ps
 
 -- functions before others
 abbrev pub functions_behind : List tree.Function → Checking (List tree.Function) → Checking (List tree.Function)
@@ -99,14 +100,14 @@ module _ (names : List (List ℕ)) (scope : Scope) (fs : List FunctionSyntax) (i
 -- a function, whose body is refused, and whose body is found
 module _ (names : List (List ℕ)) (scope : Scope) (f : FunctionSyntax) where
   abbrev pub body_found : Checking tree.Expression
-  body_found = wanted (place_of f.body) (type_meant names f.result_type) (elaborated scope (parameter_locals names f.parameters) f.body)
+  body_found = wanted (place_of f.body) (type_meant scope.format names f.result_type) (elaborated scope (parameter_locals scope.format names f.parameters) f.body)
 
   abbrev with_body : tree.Expression → tree.Function
   with_body body = record {
     name = f.name.name;
     kind = kind_meant f.kind;
-    parameters = map (λ (p : ParameterSyntax). type_meant names p.of_type) f.parameters;
-    result = type_meant names f.result_type;
+    parameters = map (λ (p : ParameterSyntax). type_meant scope.format names p.of_type) f.parameters;
+    result = type_meant scope.format names f.result_type;
     body = body;
   }
 
@@ -115,8 +116,8 @@ module _ (names : List (List ℕ)) (scope : Scope) (f : FunctionSyntax) where
   function_refused types new fault r is h = fault_first types new boxed_of function_of body_found (λ body. Sound (with_body body)) fault r is h
 
   pub function_shows : (types : List Ty) (g : Function) (body : Term) → g.name ≡ f.name.name → kind_of g.kind ≡ kind_meant f.kind
-      → ((more : List Ty) → types_at (types ++ more) g.parameters.items ≡ map (λ (p : ParameterSyntax). type_meant names p.of_type) f.parameters)
-      → ((more : List Ty) → type_at (types ++ more) g.result ≡ type_meant names f.result_type) → g.body ≡ body
+      → ((more : List Ty) → types_at (types ++ more) g.parameters.items ≡ map (λ (p : ParameterSyntax). type_meant scope.format names p.of_type) f.parameters)
+      → ((more : List Ty) → type_at (types ++ more) g.result ≡ type_meant scope.format names f.result_type) → g.body ≡ body
       → Shows types expression_of body_found body → Shows types function_of (checked_function names scope f) g
   function_shows types g body same_name same_kind same_parameters same_result same_body shown = λ more.
       let ps = same_parameters more in
@@ -134,17 +135,17 @@ functions_last types names scope fs i gs all none so_far =
     ∙ ap Sound (append-nil (map (function_of (types ++ [])) gs)) ∙ ap (λ l. Sound (map (function_of l) gs)) (append-nil types)
 
 -- the signature of the next head
-pub head_signature : (types : List Ty) (names : List (List ℕ)) (heads : List Head) (i : ℕ) (h : Head) → i < length heads
+pub head_signature : (types : List Ty) (format : Format) (names : List (List ℕ)) (heads : List Head) (i : ℕ) (h : Head) → i < length heads
     → h ≡ slice_index_or heads i h
-    → map (signature_meant types) heads ≡ map (signature_of names) (map (λ (h : Head). written.function_of h.function.now) heads)
-    → signature_meant types h ≡ signature_of names (written.function_of h.function.now)
-head_signature types names [] i h inside is same = absurd (omega arith)
-head_signature types names (g ∷ heads) zero h inside is same =
-    let first : signature_meant types g ≡ signature_of names (written.function_of g.function.now) = cc in
-    ap (signature_meant types) is ∙ first ∙ ap (λ (h : Head). signature_of names (written.function_of h.function.now)) (sym is)
-head_signature types names (g ∷ heads) (suc i) h inside is same =
-    let others : map (signature_meant types) heads ≡ map (signature_of names) (map (λ (h : Head). written.function_of h.function.now) heads) = cc in
-    head_signature types names heads i h (omega arith) is others
+    → map (signature_meant types) heads ≡ map (signature_of format names) (map (λ (h : Head). written.function_of h.function.now) heads)
+    → signature_meant types h ≡ signature_of format names (written.function_of h.function.now)
+head_signature types format names [] i h inside is same = absurd (omega arith)
+head_signature types format names (g ∷ heads) zero h inside is same =
+    let first : signature_meant types g ≡ signature_of format names (written.function_of g.function.now) = cc in
+    ap (signature_meant types) is ∙ first ∙ ap (λ (h : Head). signature_of format names (written.function_of h.function.now)) (sym is)
+head_signature types format names (g ∷ heads) (suc i) h inside is same =
+    let others : map (signature_meant types) heads ≡ map (signature_of format names) (map (λ (h : Head). written.function_of h.function.now) heads) = cc in
+    head_signature types format names heads i h (omega arith) is others
 
 -- what stands for each so far, and for the next one
 pub taken_more : {A B C : Type 0} (g : C → B) (f : A → B) (zs : List C) (z : C) (xs : List A) (i : ℕ) (x : A) → i < length xs
@@ -162,13 +163,13 @@ taken_more {A} g f zs z xs i x inside is so_far same =
 -- the body of a function, behind its parameters
 pub body_is : (a b : Elaborator) (names : List (List ℕ)) (head : Head) (at : Place) (x : ExpSyntax) → types_of b ≡ types_of a
     → scope_of b ≡ scope_of a
-    → signature_meant (types_of a) head ≡ signature_of names (written.function_of head.function.now)
-    → locals_of b ≡ parameter_locals names (map written.parameter_of head.function.now.parameters.items)
+    → signature_meant (types_of a) head ≡ signature_of (scope_of a).format names (written.function_of head.function.now)
+    → locals_of b ≡ parameter_locals (scope_of a).format names (map written.parameter_of head.function.now.parameters.items)
     → wanted at (type_at (types_of b) head.result) (found_at b x)
-    ≡ wanted at (type_meant names (written.type_of head.function.now.result_type))
-    (elaborated (scope_of a) (parameter_locals names (map written.parameter_of head.function.now.parameters.items)) x)
+    ≡ wanted at (type_meant (scope_of a).format names (written.type_of head.function.now.result_type))
+    (elaborated (scope_of a) (parameter_locals (scope_of a).format names (map written.parameter_of head.function.now.parameters.items)) x)
 body_is a b names head at x types scope signature locals =
     ap (λ l. wanted at (type_at l head.result) (found_at b x)) types
     ∙ ap (λ t. wanted at t (found_at b x)) (ap (λ (s : Signature). s.result) signature)
-    ∙ ap (λ s. wanted at (type_meant names (written.type_of head.function.now.result_type)) (elaborated s (locals_of b) x)) scope
-    ∙ ap (λ ls. wanted at (type_meant names (written.type_of head.function.now.result_type)) (elaborated (scope_of a) ls x)) locals
+    ∙ ap (λ s. wanted at (type_meant (scope_of a).format names (written.type_of head.function.now.result_type)) (elaborated s (locals_of b) x)) scope
+    ∙ ap (λ ls. wanted at (type_meant (scope_of a).format names (written.type_of head.function.now.result_type)) (elaborated (scope_of a) ls x)) locals

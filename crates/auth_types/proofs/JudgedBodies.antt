@@ -1,16 +1,18 @@
 -- What passes is by the typing rules, and what is told is broken first.
-use Rattle.std.proofs.Common.{◌≡◌, ℕ, ◌<◌, ◌≤◌, Bool, true, false, List, [], ◌∷◌, length, Option, Some, None, bytes_eq, if◌then◌else◌, nat_eq, nat_lt, refl, sym, ap, ◌∙◌, subst, zero-add, arith}
+use Rattle.std.proofs.Common.{◌≡◌, ℕ, suc, ◌<◌, ◌≤◌, Bool, true, false, List, [], ◌∷◌, length, inl, inr, Option, Some, None, bytes_eq, if◌then◌else◌, nat_eq, nat_lt, refl, sym, ap, ◌∙◌, subst, zero-add, arith}
 use Rattle.std.specs.Bool.{Decides}
 use Rattle.std.proofs.lemmas.Slice.Eq.{bytes_eq-Decides}
 use Rattle.core_terms.specs.declared.term.BinaryOperator.TheVariants.{Arith, Compare, TextCompare, Cat}
 use Rattle.core_terms.specs.declared.term.BinaryOperator.{BinaryOperator}
 use Rattle.core_terms.specs.Types.{Ty, UnitTy, BoolTy, IntTy, TextTy, PairTy, NamedTy, AuthTy, VecTy}
-use Rattle.core_terms.specs.Terms.{Expression, Expressions, AndArm, AuthE, CallE, ConE, LenE, NotE, MatchE, LocalE}
+use Rattle.core_terms.specs.Terms.{Expression, Expressions, AndArm, AndE, AuthE, CallE, ConE, LenE, NotE, MatchE, LocalE, OperateE}
+use Rattle.core_terms.specs.Terms as tree
 use Rattle.core_terms.specs.Typing.{same_type}
 use Rattle.lexemes.specs.declared.place.Place.{Place}
-use Rattle.auth_syntax.specs.Syntax.{NameSyntax, ExpSyntax, UnitSyntax, BoolSyntax, IntSyntax, TextSyntax, LocalSyntax, PairSyntax, UnarySyntax, BinarySyntax, CallSyntax, ConstructorSyntax, LetSyntax, IfSyntax, MatchSyntax, ExpsSyntax, NoExp, AndExp, ArmsSyntax, NoArmSyntax, AndArmSyntax, UnaryOperation, FstOperation, SndOperation, AuthOperation, UnauthOperation, LenOperation, NotOperation, place_of}
+use Rattle.auth_syntax.specs.Syntax.{NameSyntax, ExpSyntax, UnitSyntax, BoolSyntax, IntSyntax, TextSyntax, LocalSyntax, PairSyntax, UnarySyntax, BinarySyntax, CallSyntax, ConstructorSyntax, OperateSyntax, LetSyntax, IfSyntax, MatchSyntax, ExpsSyntax, NoExp, AndExp, ArmsSyntax, NoArmSyntax, AndArmSyntax, UnaryOperation, FstOperation, SndOperation, AuthOperation, UnauthOperation, LenOperation, NotOperation, ArrayOperation, place_of}
+use Rattle.auth_syntax.specs.Grammar.{others_of}
 use Rattle.declared_types.specs.Checking.{Checking, Sound, then_checked, unless_fault}
-use Rattle.auth_types.specs.Bodies.{Local, Typed, TypedArms, arm_names, binary_expression, bound_names, called, constructed, count_of, elaborated, elaborated_arms, elaborated_each, first_of, last_named, local_at, matched, most_locals, opened, operand_type, result_type, same_names, second_of, typed, unary, wanted, wanted_arm}
+use Rattle.auth_types.specs.Bodies.{Local, Typed, TypedArms, arm_names, binary_expression, bound_names, called, constructed, count_of, elaborated, elaborated_arms, elaborated_each, first_of, last_named, local_at, matched, may_begin, most_locals, opened, operand_type, operated, operated_on, result_type, same_names, second_of, typed, unary, wanted, wanted_arm}
 use Rattle.declared_types.specs.Signatures.{Numbered, Scope, Signature, constructor_named, function_named}
 use Rattle.auth_types.specs.TypingRules
 use Rattle.auth_types.specs.TypingRules.{Operates, NamesConstructor, constructor_names, constructor_fields, field_types, with_local, with_fields, MayBindAll, IsTypeOf, Elaborates, ElaborateEach, ElaborateArms}
@@ -18,12 +20,13 @@ use Rattle.auth_types.specs.BrokenRules
 use Rattle.auth_types.specs.BrokenRules.{Breaks, Misfits, OneMisfits, BodyBreaks, ArmsBreak, BreaksNames, IsOfType}
 use Rattle.auth_types.specs.TypingLaws.{IsWhole}
 use Rattle.declared_types.specs.declared.fault.TypeKind.{TypeKind}
-use Rattle.declared_types.specs.declared.fault.TypeKind.TheVariants.{ArmsWrong, Limit, WrongCount, WrongType}
+use Rattle.declared_types.specs.declared.fault.TypeKind.TheVariants.{ArmsWrong, Limit, NotVec, WrongCount, WrongType}
 use Rattle.declared_types.specs.declared.fault.Limited.TheVariants.{Locals}
 use Rattle.declared_types.proofs.SoundNames.{as_many_at}
 use Rattle.auth_types.proofs.NamedParts.{LocalFound, FunctionFound, TypeFound, local_by_name, function_by_name, constructor_by_name, type_of_local}
 use Rattle.auth_types.proofs.Judging.{Judges, judges_then, judges_unless, judges_more, type_decides, equal_decides, below_decides}
 use Rattle.auth_types.proofs.JudgedNames.{pattern_judged}
+use Rattle.auth_types.proofs.TakenArrays.{IsRuled, taken_ruled, takes_count}
 
 -- the table of operations is that of the checker
 pub operates : (operation : BinaryOperator) → Operates operation (operand_type operation) (result_type operation) (λ x y. binary_expression operation x y)
@@ -195,6 +198,38 @@ module _ (scope : Scope) where
       (elaborated_each scope locals operands ts) (λ xs. typed (ConE c.number c.value xs) (NamedTy c.number)) (each ts many)
       (λ kind place m. BrokenRules.InFields named many m) (λ xs hxs. TypingRules.ConstructorRule named hxs))
 
+  -- an operation on arrays
+  operated_judged : (locals : List Local) (at : Place) (operation : ArrayOperation) (first : ExpSyntax) (rest : ExpsSyntax) (found : Checking Typed)
+      → IsJudged locals first found
+      → ((ts : List Ty) → count_of rest ≡ length ts → AreJudged locals rest ts (elaborated_each scope locals rest ts))
+      → IsJudged locals (OperateSyntax at operation (AndExp first rest))
+      (operated scope.format at operation (count_of rest) (place_of first) found (elaborated_each scope locals rest))
+  operated_judged locals at operation first rest found h each =
+      let whole = OperateSyntax at operation (AndExp first rest) in
+      judges_unless (count_of rest ≡ others_of operation) (Means locals whole) (Breaks scope locals whole) (nat_eq (count_of rest) (others_of operation)) WrongCount at _
+      (equal_decides (count_of rest) (others_of operation))
+      (λ never. BrokenRules.OtherOperands (λ same. never (cc)))
+      (λ many. judges_unless (may_begin scope.format operation ≡ true) (Means locals whole) (Breaks scope locals whole) (may_begin scope.format operation) NotVec at _
+      (λ e. e, λ e. e) (λ never. BrokenRules.FillsNoVec (ap suc many) never)
+      (λ may. behind_part locals first locals whole found (operated_on scope.format operation (place_of first) (elaborated_each scope locals rest)) h
+      (λ kind place b. BrokenRules.InFirstOperand many may b)
+      (λ x hx. by many may x hx (taken_ruled scope.format operation (place_of first) x.of_type may))))
+    where
+      by : count_of rest ≡ others_of operation → may_begin scope.format operation ≡ true → (x : Typed) → Means locals first x
+          → IsRuled scope.format operation (place_of first) x.of_type
+          → IsJudged locals (OperateSyntax at operation (AndExp first rest)) (operated_on scope.format operation (place_of first) (elaborated_each scope locals rest) x)
+      by many may x hx (inl (op, ts, takes, is)) =
+          let whole = OperateSyntax at operation (AndExp first rest) in
+          subst (λ c. IsJudged locals whole (then_checked c (λ taken. then_checked (elaborated_each scope locals rest taken.others)
+          (λ xs. typed (OperateE taken.operation (AndE x.expression xs)) (tree.result_type taken.operation))))) (sym is)
+          (judges_then (λ xs. ElaborateEach scope locals rest xs ts) (OneMisfits scope locals ts rest) (Means locals whole) (Breaks scope locals whole)
+          (elaborated_each scope locals rest ts) (λ xs. typed (OperateE op (AndE x.expression xs)) (tree.result_type op))
+          (each ts (many ∙ sym (takes_count takes))) (λ kind place m. BrokenRules.InOthers many hx takes m) (λ xs hxs. TypingRules.OperateRule hx takes hxs))
+      by many may x hx (inr (none, is)) =
+          subst (λ c. IsJudged locals (OperateSyntax at operation (AndExp first rest)) (then_checked c (λ taken. then_checked (elaborated_each scope locals rest taken.others)
+          (λ xs. typed (OperateE taken.operation (AndE x.expression xs)) (tree.result_type taken.operation))))) (sym is)
+          (BrokenRules.OperatesOnNoVec many may hx none)
+
   -- arms
   abbrev pub TypeFits : Option Ty → ArmsSyntax → Ty → Type 0
   TypeFits None arms t = IsTypeOf arms t
@@ -277,6 +312,9 @@ module _ (scope : Scope) where
           call_judged locals at name operands (function_named 0 scope.functions name) (function_by_name scope.functions name) (λ ts many. each_judged locals operands ts many)
       judged locals (ConstructorSyntax at name operands) =
           constructor_judged locals at name operands (constructor_named 0 scope.constructors name) (constructor_by_name scope.constructors name) (λ ts many. each_judged locals operands ts many)
+      judged locals (OperateSyntax at operation NoExp) = BrokenRules.OtherOperands (λ same. absurd (cc))
+      judged locals (OperateSyntax at operation (AndExp first rest)) =
+          operated_judged locals at operation first rest (elaborated scope locals first) (judged locals first) (λ ts many. each_judged locals rest ts many)
       judged locals (LetSyntax at name bound body) =
           let tree = LetSyntax at name bound body in
           behind_part locals bound locals tree (elaborated scope locals bound) _ (judged locals bound) (λ kind place b. BrokenRules.InBound b)

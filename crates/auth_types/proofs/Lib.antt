@@ -2,7 +2,8 @@
 pub mod TreeViews
 pub mod ElaboratorSteps
 pub mod FindingSteps
--- `local`, `plain` and `text` of elaborator.rt, and leaves.rt; operations.rt; calls.rt, the names and then the terms; `bind_each` of binders.rt
+-- `form`, `local`, `plain` and `text` of elaborator.rt, and leaves.rt; operations.rt; calls.rt, the names and then the terms; `bind_each` of binders.rt
+pub mod ArrayForms
 pub mod LocalSteps
 pub mod OperationSteps
 pub mod CallSteps
@@ -10,9 +11,10 @@ pub mod ApplicationSteps
 pub mod BoundNames
 -- joins.rt, parts.rt, and `two` of bodies.rt
 pub mod JoinSteps
--- the cycle of bodies.rt: conditions; rows; matches and their arms; parts that are refused
+-- the cycle of bodies.rt: conditions; rows; operations on arrays, with arrays.rt; matches and their arms; parts that are refused
 pub mod ExpressionSteps
 pub mod RowSteps
+pub mod ArraySteps
 pub mod MatchSteps
 pub mod ArmSteps
 pub mod RefusedParts
@@ -32,6 +34,7 @@ pub mod LimitsOfPrograms
 pub mod SoundPrograms
 -- the laws of expressions and of programs: what passes by the rules, and what breaks them first
 pub mod Judging
+pub mod TakenArrays
 pub mod NamedParts
 pub mod JudgedNames
 pub mod JudgedBodies
@@ -47,4 +50,5 @@ pub mod RuledTypes
 -- the definitions, computed: no function cites these rows
 pub mod Rows
 pub mod RowsOfLimits
+pub mod ArrayRows
 pub mod SoundRows

@@ -1,6 +1,7 @@
 -- The passes on a tree, one after another: the first that finds a fault ends them, and where none does they give the program.
 use Rattle.std.proofs.Common.{◌≡◌, ℕ, List, Result, Ok, Err, refl, sym, ap, ◌∙◌, subst}
 use Rattle.core_terms.specs.Types.{Ty}
+use Rattle.core_terms.specs.declared.format.Format.{Format}
 use Rattle.core_terms.specs.Terms as tree
 use Rattle.core_terms.specs.declared.program.Program.{Program as CodeProgram}
 use Rattle.core_terms.specs.Programs.{meaning, types_in}
@@ -11,7 +12,7 @@ use Rattle.auth_types.specs.Bodies.{checked_functions}
 use Rattle.declared_types.specs.Signatures.{Scope}
 use Rattle.declared_types.specs.Checking.{Checking, Sound, FaultAt, then_checked}
 use Rattle.auth_types.specs.CheckedPrograms.{all_passes, as_checked, fourth_pass, program_format}
-use Rattle.declared_types.specs.DeclaredPrograms.{names_of, scope_of, state_of, table_of_program, third_pass}
+use Rattle.declared_types.specs.DeclaredPrograms.{format_of, names_of, scope_of, state_of, table_of_program, third_pass}
 use Rattle.declared_types.specs.Declarations.{first_pass}
 use Rattle.auth_types.specs.Outcomes.{Checks}
 use Rattle.declared_types.specs.Findings.{Finds, TypeFault}
@@ -27,7 +28,7 @@ same_refused found other fault same refused = subst (λ found. IsRefused found f
 
 -- the parts of the program that four passes give
 abbrev as_program : Program → List tree.Function → tree.Program
-as_program program functions = record { format = program_format; types = table_of_program program; state = state_of program; functions = functions }
+as_program program functions = record { format = program_format program; types = table_of_program program; state = state_of program; functions = functions }
 
 module _ (program : Program) where
   -- the passes behind those that found no fault
@@ -73,17 +74,19 @@ module _ (program : Program) where
 
 -- the fourth pass over the parts that the code passes on
 module _ (program : Program) (types : List Ty) (scope : CodeScope) (state : TyId) (stands : TableStandsFor program types scope state) where
-  pub fourth_is : checked_functions (names_of program) (scope_meant types scope) (functions_meant scope) ≡ fourth_pass program
+  pub fourth_is : checked_functions (names_of program) (scope_meant (format_of program) types scope) (functions_meant scope) ≡ fourth_pass program
   fourth_is = ap (λ (s : Scope). checked_functions (names_of program) s (functions_meant scope)) stands.scope
       ∙ ap (checked_functions (names_of program) (scope_of program)) stands.functions
 
-  pub fourth_told : (told : Checking (List tree.Function) → Type 0) (table : TyTable) (lent : CodeScope) → types_in table ≡ types → lent ≡ scope
-      → ((names : List (List ℕ)) → AreHeadsOf names (types_in table) lent
-      → told (checked_functions names (scope_meant (types_in table) lent) (functions_meant lent))) → told (fourth_pass program)
-  fourth_told told table lent same same' says =
-      let Says : List Ty → CodeScope → Type 0 = λ types lent.
-      (names : List (List ℕ)) → AreHeadsOf names types lent → told (checked_functions names (scope_meant types lent) (functions_meant lent)) in
-      subst told fourth_is (subst (Says types) same' (subst (λ types. Says types lent) same says) (names_of program)
+  pub fourth_told : (told : Checking (List tree.Function) → Type 0) (table : TyTable) (lent : CodeScope) → table.format ≡ format_of program
+      → types_in table ≡ types → lent ≡ scope
+      → ((names : List (List ℕ)) → AreHeadsOf table.format names (types_in table) lent
+      → told (checked_functions names (scope_meant table.format (types_in table) lent) (functions_meant lent))) → told (fourth_pass program)
+  fourth_told told table lent format same same' says =
+      let Says : Format → List Ty → CodeScope → Type 0 = λ format types lent.
+      (names : List (List ℕ)) → AreHeadsOf format names types lent → told (checked_functions names (scope_meant format types lent) (functions_meant lent)) in
+      subst told fourth_is (subst (Says (format_of program) types) same' (subst (λ types. Says (format_of program) types lent) same
+      (subst (λ format. Says format (types_in table) lent) format says)) (names_of program)
       (heads_signed program types scope state stands))
 
 -- what the passes find, as it is told

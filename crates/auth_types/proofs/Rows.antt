@@ -14,7 +14,7 @@ abbrev of_tree : Parsed → Option Checked
 of_tree (Tree program) = Some (checked program)
 of_tree parsed = None
 
-abbrev answer : List ℕ → Option Checked
+abbrev pub answer : List ℕ → Option Checked
 answer text = of_tree (parsed text)
 
 -- a text is that of a program, and what is found of it is well-typed, with roles of their shapes
@@ -22,7 +22,7 @@ abbrev accepts : Option Checked → Bool
 accepts (Some (IsProgram P)) = is_typed P && is_shaped P
 accepts answer = false
 
-abbrev is_program : List ℕ → Bool
+abbrev pub is_program : List ℕ → Bool
 is_program text = accepts (answer text)
 
 -- The first pass: names that stand twice, in each space

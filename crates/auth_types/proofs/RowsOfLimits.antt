@@ -2,6 +2,7 @@
 use Rattle.std.proofs.Common.{◌≡◌, ℕ, true, List, [], ◌∷◌, Option, Some, None, replicate, refl}
 use Rattle.std.specs.Prelude.{codes}
 use Rattle.core_terms.specs.Types.{IntTy}
+use Rattle.core_terms.specs.declared.format.Format.TheVariants.{First}
 use Rattle.auth_syntax.specs.Syntax.{FunctionSyntax, ConstructorDeclaration, DeclarationSyntax, TypeDeclaration}
 use Rattle.auth_syntax.specs.Parsing.{Parsed, Tree, parsed}
 use Rattle.declared_types.specs.Checking.{Checking, Sound, FaultAt}
@@ -76,7 +77,7 @@ twice_at_a_256th_constructor = refl
 -- the body of a text's first function, behind so many locals of the name `x`, which are ints
 abbrev of_body : ℕ → List FunctionSyntax → Option Checked
 of_body n (function ∷ rest) =
-    fault (elaborated (record { functions = []; constructors = (codes "A" ∷ []) ∷ []; table = ((IntTy ∷ []) ∷ []) ∷ [] })
+    fault (elaborated (record { format = First; functions = []; constructors = (codes "A" ∷ []) ∷ []; table = ((IntTy ∷ []) ∷ []) ∷ [] })
     (replicate n (record { name = codes "x"; of_type = IntTy })) function.body)
 of_body n [] = None
 

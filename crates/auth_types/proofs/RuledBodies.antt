@@ -1,24 +1,27 @@
 -- What the typing rules give passes, and what is broken first is told.
-use Rattle.std.proofs.Common.{◌≡◌, ℕ, suc, ◌<◌, ◌≤◌, List, [], length, Option, Some, None, unwrap_or, nat_eq, nat_lt, refl, sym, ap, ◌∙◌, subst, arith}
+use Rattle.std.proofs.Common.{◌≡◌, ℕ, suc, ◌<◌, ◌≤◌, true, List, [], length, Option, Some, None, unwrap_or, nat_eq, nat_lt, refl, sym, ap, ◌∙◌, subst, arith}
 use Rattle.core_terms.specs.declared.term.BinaryOperator.{BinaryOperator}
 use Rattle.core_terms.specs.Types.{Ty, UnitTy, BoolTy, IntTy, TextTy, PairTy, NamedTy, AuthTy}
-use Rattle.core_terms.specs.Terms.{Expression, Expressions, Arms, NoArm, AndArm, AndE, CallE, ConE, LenE, NotE, MatchE, LocalE, LetE, IfE}
+use Rattle.core_terms.specs.Terms.{Expression, Expressions, Arms, NoArm, AndArm, AndE, CallE, ConE, LenE, NotE, MatchE, LocalE, LetE, IfE, OperateE}
+use Rattle.core_terms.specs.Terms as tree
 use Rattle.lexemes.specs.declared.place.Place.{Place}
-use Rattle.auth_syntax.specs.Syntax.{NameSyntax, ExpSyntax, ExpsSyntax, ArmsSyntax, NoArmSyntax, AndArmSyntax, UnaryOperation, FstOperation, SndOperation, AuthOperation, UnauthOperation, LenOperation, NotOperation, place_of}
+use Rattle.auth_syntax.specs.Syntax.{NameSyntax, ExpSyntax, ExpsSyntax, NoExp, AndExp, OperateSyntax, ArmsSyntax, NoArmSyntax, AndArmSyntax, UnaryOperation, FstOperation, SndOperation, AuthOperation, UnauthOperation, LenOperation, NotOperation, ArrayOperation, place_of}
+use Rattle.auth_syntax.specs.Grammar.{others_of}
 use Rattle.declared_types.specs.Checking.{Checking, Sound, FaultAt, then_checked, unless_fault}
-use Rattle.auth_types.specs.Bodies.{Local, Typed, TypedArms, arm_names, binary_expression, bound_names, called, constructed, count_of, elaborated, elaborated_arms, elaborated_each, first_of, local_at, matched, most_locals, opened, operand_type, result_type, same_names, second_of, typed, unary, wanted, wanted_arm}
+use Rattle.auth_types.specs.Bodies.{Local, Taken, Typed, TypedArms, arm_names, binary_expression, bound_names, called, constructed, count_of, elaborated, elaborated_arms, elaborated_each, first_of, local_at, matched, may_begin, most_locals, opened, operand_type, operated_on, result_type, same_names, second_of, taken_by, typed, unary, wanted, wanted_arm}
 use Rattle.declared_types.specs.Signatures.{Scope, Signature}
 use Rattle.auth_types.specs.TypingRules
 use Rattle.auth_types.specs.TypingRules.{Operates, constructor_names, constructor_fields, field_types, with_local, with_fields, Elaborates, ElaborateEach, ElaborateArms}
 use Rattle.auth_types.specs.BrokenRules
 use Rattle.auth_types.specs.BrokenRules.{Breaks, Misfits, OneMisfits, BodyBreaks, ArmsBreak, IsOfType, IsNoPair, IsNoAuth, IsNoSum}
 use Rattle.declared_types.specs.declared.fault.TypeKind.{TypeKind}
-use Rattle.declared_types.specs.declared.fault.TypeKind.TheVariants.{ArmsWrong, Limit, WrongCount, NotPair, NotAuth, NotSum}
+use Rattle.declared_types.specs.declared.fault.TypeKind.TheVariants.{ArmsWrong, Limit, WrongCount, NotPair, NotAuth, NotVec, NotSum}
 use Rattle.declared_types.specs.declared.fault.Limited.TheVariants.{Locals}
 use Rattle.auth_types.proofs.NamedParts.{local_named, no_local_named, type_of_local, function_is_named, no_function_named, constructor_is_named, no_constructor_named}
 use Rattle.auth_types.proofs.Judging.{then_is, then_fault, unless_holds, unless_fails, wanted_is, wanted_fault, wanted_other, equal_decides, below_decides}
 use Rattle.auth_types.proofs.JudgedNames.{pattern_binds, pattern_breaks}
 use Rattle.auth_types.proofs.JudgedBodies.{names_decide, TypeFits}
+use Rattle.auth_types.proofs.TakenArrays.{none_taken, takes_begin, takes_count, takes_is}
 
 -- as an operation is in the table, so it is in the checker
 operates_on : {operation : BinaryOperator} {t r : Ty} {made : Expression → Expression → Expression} → Operates operation t r made → operand_type operation ≡ t
@@ -114,6 +117,49 @@ module _ (scope : Scope) where
   abbrev made_with : ℕ → ℕ → Expressions → Checking Typed
   made_with number tag es = typed (ConE number tag es) (NamedTy number)
 
+  -- what is behind the first operand of an operation on arrays, behind what is taken, and behind the tests of both
+  abbrev made_on : Expression → Taken → Expressions → Checking Typed
+  made_on x taken xs = typed (OperateE taken.operation (AndE x xs)) (tree.result_type taken.operation)
+
+  abbrev behind_taken : List Local → ExpsSyntax → Expression → Taken → Checking Typed
+  behind_taken locals rest x taken = then_checked (each_at locals rest taken.others) (made_on x taken)
+
+  abbrev behind_operand : List Local → ArrayOperation → ExpSyntax → ExpsSyntax → Typed → Checking Typed
+  behind_operand locals operation first rest = operated_on scope.format operation (place_of first) (each_at locals rest)
+
+  abbrev behind_begin : List Local → Place → ArrayOperation → ExpSyntax → ExpsSyntax → Checking Typed
+  behind_begin locals at operation first rest =
+      unless_fault (may_begin scope.format operation) NotVec at (then_checked (found_at locals first) (behind_operand locals operation first rest))
+
+  -- the operands are as many as the operation takes
+  counted : (locals : List Local) (at : Place) (operation : ArrayOperation) (first : ExpSyntax) (rest : ExpsSyntax) → count_of rest ≡ others_of operation
+      → found_at locals (OperateSyntax at operation (AndExp first rest)) ≡ behind_begin locals at operation first rest
+  counted locals at operation first rest many =
+      unless_holds (nat_eq (count_of rest) (others_of operation)) WrongCount at (behind_begin locals at operation first rest)
+      (equal_decides (count_of rest) (others_of operation)) many
+
+  -- and the program may have the array that a fill makes
+  begun : (locals : List Local) (at : Place) (operation : ArrayOperation) (first : ExpSyntax) (rest : ExpsSyntax) → count_of rest ≡ others_of operation
+      → may_begin scope.format operation ≡ true
+      → found_at locals (OperateSyntax at operation (AndExp first rest)) ≡ then_checked (found_at locals first) (behind_operand locals operation first rest)
+  begun locals at operation first rest many may =
+      counted locals at operation first rest many
+      ∙ ap (λ b. unless_fault b NotVec at (then_checked (found_at locals first) (behind_operand locals operation first rest))) may
+
+  other_operands : (locals : List Local) (at : Place) (operation : ArrayOperation) (operands : ExpsSyntax) → (count_of operands ≡ suc (others_of operation) → ⊥)
+      → found_at locals (OperateSyntax at operation operands) ≡ FaultAt WrongCount at
+  other_operands locals at operation NoExp never = refl
+  other_operands locals at operation (AndExp first rest) never =
+      unless_fails (nat_eq (count_of rest) (others_of operation)) WrongCount at (behind_begin locals at operation first rest)
+      (equal_decides (count_of rest) (others_of operation)) (λ same. never (ap suc same))
+
+  fills_none : (locals : List Local) (at : Place) (operation : ArrayOperation) (operands : ExpsSyntax) → count_of operands ≡ suc (others_of operation)
+      → (may_begin scope.format operation ≡ true → ⊥) → found_at locals (OperateSyntax at operation operands) ≡ FaultAt NotVec at
+  fills_none locals at operation NoExp many never = absurd (cc)
+  fills_none locals at operation (AndExp first rest) many never =
+      counted locals at operation first rest (cc)
+      ∙ unless_fails (may_begin scope.format operation) NotVec at (then_checked (found_at locals first) (behind_operand locals operation first rest)) (λ e. e, λ e. e) never
+
   -- what is behind the first of expressions in a row
   abbrev behind_one : List Local → ExpsSyntax → List Ty → Expression → Checking Expressions
   behind_one locals rest ts x = then_checked (each_at locals rest ts) (λ xs. Sound (AndE x xs))
@@ -193,6 +239,11 @@ module _ (scope : Scope) where
         ∙ unless_holds (nat_eq (count_of operands) (length ts)) WrongCount at (then_checked (each_at locals operands ts) (made_with number tag))
         (equal_decides (count_of operands) (length ts)) (each_count h)
         ∙ then_is (each_at locals operands ts) (made_with number tag) xs (each_passes h)
+    passes (TypingRules.OperateRule {locals = locals} {at = at} {operation = operation} {first = first} {rest = rest} {x = x} {xs = xs} {t = t} {op = op} {ts = ts} h takes j) =
+        begun locals at operation first rest (each_count j ∙ takes_count takes) (takes_begin takes)
+        ∙ then_is (found_at locals first) (behind_operand locals operation first rest) (typed_as x t) (passes h)
+        ∙ then_is (taken_by scope.format operation (place_of first) t) (behind_taken locals rest x) (record { operation = op; others = ts }) (takes_is (place_of first) takes)
+        ∙ then_is (each_at locals rest ts) (made_on x (record { operation = op; others = ts })) xs (each_passes j)
     passes (TypingRules.LetRule {locals = locals} {name = name} {bound = bound} {body = body} {x = x} {y = y} {a = a} {b = b} h room j) =
         let inner = with_local locals name.name a in
         let rest = then_checked (found_at inner body) (bound_in a x) in
@@ -281,6 +332,21 @@ module _ (scope : Scope) where
         ∙ unless_holds (nat_eq (count_of operands) (length ts)) WrongCount at (then_checked (each_at locals operands ts) (made_with number tag))
         (equal_decides (count_of operands) (length ts)) many
         ∙ then_fault (each_at locals operands ts) (made_with number tag) kind place (one_told m)
+    tells (BrokenRules.OtherOperands {locals = locals} {at = at} {operation = operation} {operands = operands} never) = other_operands locals at operation operands never
+    tells (BrokenRules.FillsNoVec {locals = locals} {at = at} {operation = operation} {operands = operands} many never) = fills_none locals at operation operands many never
+    tells (BrokenRules.InFirstOperand {locals = locals} {at = at} {operation = operation} {first = first} {rest = rest} {kind = kind} {place = place} many may b) =
+        begun locals at operation first rest many may
+        ∙ then_fault (found_at locals first) (behind_operand locals operation first rest) kind place (tells b)
+    tells (BrokenRules.OperatesOnNoVec {locals = locals} {at = at} {operation = operation} {first = first} {rest = rest} {x = x} {t = t} many may h none) =
+        begun locals at operation first rest many may
+        ∙ then_is (found_at locals first) (behind_operand locals operation first rest) (typed_as x t) (passes h)
+        ∙ then_fault (taken_by scope.format operation (place_of first) t) (behind_taken locals rest x) NotVec (place_of first)
+        (none_taken scope.format operation (place_of first) t may none)
+    tells (BrokenRules.InOthers {locals = locals} {at = at} {operation = operation} {first = first} {rest = rest} {x = x} {t = t} {op = op} {ts = ts} {kind = kind} {place = place} many h takes m) =
+        begun locals at operation first rest many (takes_begin takes)
+        ∙ then_is (found_at locals first) (behind_operand locals operation first rest) (typed_as x t) (passes h)
+        ∙ then_is (taken_by scope.format operation (place_of first) t) (behind_taken locals rest x) (record { operation = op; others = ts }) (takes_is (place_of first) takes)
+        ∙ then_fault (each_at locals rest ts) (made_on x (record { operation = op; others = ts })) kind place (one_told m)
     tells (BrokenRules.InBound {locals = locals} {name = name} {bound = bound} {body = body} {kind = kind} {place = place} b) =
         then_fault (found_at locals bound) (behind_bound locals name body) kind place (tells b)
     tells (BrokenRules.BindsTooMany {locals = locals} {name = name} {bound = bound} {body = body} {x = x} {a = a} h full) =

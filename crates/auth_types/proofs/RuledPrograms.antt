@@ -3,6 +3,7 @@ use Rattle.std.proofs.Common.{◌≡◌, ℕ, List, [], ◌∷◌, ◌++◌, ◌
 use Rattle.std.specs.List.{AllZip}
 use Rattle.std.proofs.lemmas.List.{length-map}
 use Rattle.core_terms.specs.Types.{Ty}
+use Rattle.core_terms.specs.declared.format.Format.{Format}
 use Rattle.core_terms.specs.Terms.{Expression, Function}
 use Rattle.core_terms.specs.Terms as tree
 use Rattle.lexemes.specs.declared.place.Place.{Place}
@@ -14,7 +15,7 @@ use Rattle.declared_types.specs.RoleRules.{kind_meant}
 use Rattle.auth_types.specs.Bodies.{Local, checked_function, checked_functions, elaborated, parameter_locals, wanted}
 use Rattle.declared_types.specs.Signatures.{Scope}
 use Rattle.auth_types.specs.CheckedPrograms.{FirstFault, IsProgram, all_passes, as_checked, checked, fourth_pass, program_format}
-use Rattle.declared_types.specs.DeclaredPrograms.{constructors_in, names_of, scope_of, state_of, table_of_program, third_pass}
+use Rattle.declared_types.specs.DeclaredPrograms.{constructors_in, format_of, names_of, scope_of, state_of, table_of_program, third_pass}
 use Rattle.auth_types.specs.InOrder.{OneBreaks, ThisBreaks, LaterBreaks}
 use Rattle.auth_types.specs.TypingRules.{Elaborates}
 use Rattle.auth_types.specs.BrokenRules.{Misfits}
@@ -45,15 +46,15 @@ module _ (names : List (List ℕ)) (scope : Scope) (whole : IsWhole scope) where
   with_body f body = record {
     name = f.name.name;
     kind = kind_meant f.kind;
-    parameters = map (λ (p : ParameterSyntax). type_meant names p.of_type) f.parameters;
-    result = type_meant names f.result_type;
+    parameters = map (λ (p : ParameterSyntax). type_meant scope.format names p.of_type) f.parameters;
+    result = type_meant scope.format names f.result_type;
     body = body;
   }
 
   function_ruled : (before : List FunctionSyntax) (f : FunctionSyntax) → Ruled (checked_function names scope f) (FunctionStandsFor names scope f) (BreaksBody names scope before f)
   function_ruled before f =
-      let locals = parameter_locals names f.parameters in
-      let t = type_meant names f.result_type in
+      let locals = parameter_locals scope.format names f.parameters in
+      let t = type_meant scope.format names f.result_type in
       let Q : Expression → Type 0 = λ x. Elaborates scope locals f.body x t in
       ruled_like (checked_function names scope f) (λ g. (x : Expression) × Q x × (with_body f x ≡ g)) (FunctionStandsFor names scope f)
       (λ kind at. Misfits scope locals t f.body kind at ⊎ ((x : Expression) × Q x × ⊥)) (BreaksBody names scope before f)
@@ -66,12 +67,12 @@ module _ (names : List (List ℕ)) (scope : Scope) (whole : IsWhole scope) where
       same g h = by g.name g.kind g.parameters g.result (sym h.name) (sym h.kind) (sym h.parameters) (sym h.result)
         where
           by : (name : List ℕ) (kind : tree.Kind) (parameters : List Ty) (result : Ty) → f.name.name ≡ name → kind_meant f.kind ≡ kind
-              → map (λ (p : ParameterSyntax). type_meant names p.of_type) f.parameters ≡ parameters → type_meant names f.result_type ≡ result
+              → map (λ (p : ParameterSyntax). type_meant scope.format names p.of_type) f.parameters ≡ parameters → type_meant scope.format names f.result_type ≡ result
               → with_body f g.body ≡ record { name = name; kind = kind; parameters = parameters; result = result; body = g.body }
           by name kind parameters result a b c d = cc
 
-      breaks : (kind : TypeKind) (at : Place) → Misfits scope (parameter_locals names f.parameters) (type_meant names f.result_type) f.body kind at
-          ⊎ ((x : Expression) × Elaborates scope (parameter_locals names f.parameters) f.body x (type_meant names f.result_type) × ⊥) → BreaksBody names scope before f kind at
+      breaks : (kind : TypeKind) (at : Place) → Misfits scope (parameter_locals scope.format names f.parameters) (type_meant scope.format names f.result_type) f.body kind at
+          ⊎ ((x : Expression) × Elaborates scope (parameter_locals scope.format names f.parameters) f.body x (type_meant scope.format names f.result_type) × ⊥) → BreaksBody names scope before f kind at
       breaks kind at (inl m) = m
       breaks kind at (inr (x, h, never)) = absurd never
 
@@ -117,17 +118,17 @@ module _ (names : List (List ℕ)) (scope : Scope) (whole : IsWhole scope) where
       broken kind at (LaterBreaks (g, hg) b) = inr (g, hg, inl b)
 
 -- each constructor that is declared has its name and its fields
-scope_whole : (names : List (List ℕ)) (ds : List DeclarationSyntax) → map length (constructors_in ds) ≡ map length (table_of names ds)
-scope_whole names [] = refl
-scope_whole names (TypeDeclaration at name constructors ∷ rest) =
-    ap₂ (λ n l. n ∷ l) (length-map constructors (λ (c : ConstructorDeclaration). c.name.name) ∙ sym (length-map constructors (λ (c : ConstructorDeclaration). map (type_meant names) c.fields))) (scope_whole names rest)
-scope_whole names (StateDeclaration at of_type ∷ rest) = scope_whole names rest
-scope_whole names (FunctionDeclaration at function ∷ rest) = scope_whole names rest
+scope_whole : (format : Format) (names : List (List ℕ)) (ds : List DeclarationSyntax) → map length (constructors_in ds) ≡ map length (table_of format names ds)
+scope_whole format names [] = refl
+scope_whole format names (TypeDeclaration at name constructors ∷ rest) =
+    ap₂ (λ n l. n ∷ l) (length-map constructors (λ (c : ConstructorDeclaration). c.name.name) ∙ sym (length-map constructors (λ (c : ConstructorDeclaration). map (type_meant format names) c.fields))) (scope_whole format names rest)
+scope_whole format names (StateDeclaration at of_type ∷ rest) = scope_whole format names rest
+scope_whole format names (FunctionDeclaration at function ∷ rest) = scope_whole format names rest
 
 module _ (program : Program) where
   -- the program with these functions
   abbrev with_functions : List Function → tree.Program
-  with_functions functions = record { format = program_format; types = table_of_program program; state = state_of program; functions = functions }
+  with_functions functions = record { format = program_format program; types = table_of_program program; state = state_of program; functions = functions }
 
   abbrev Functions : List Function → Type 0
   Functions = AllZip (FunctionStandsFor (names_of program) (scope_of program)) (functions_in program.declarations)
@@ -169,14 +170,14 @@ module _ (program : Program) where
   fourth_ruled : Ruled behind_third Fourth FourthBreaks
   fourth_ruled =
       ruled_then Functions (BreaksBodies program) (λ functions P. with_functions functions ≡ P) (λ _ kind at. ⊥) (fourth_pass program) (λ functions. Sound (with_functions functions))
-      (functions_ruled (names_of program) (scope_of program) (scope_whole (names_of program) program.declarations) [] (functions_in program.declarations)) (λ functions h. ruled_sound (with_functions functions))
+      (functions_ruled (names_of program) (scope_of program) (scope_whole (format_of program) (names_of program) program.declarations) [] (functions_in program.declarations)) (λ functions h. ruled_sound (with_functions functions))
 
   steps_ruled : Ruled (all_passes program) First FirstBreaks
   steps_ruled =
       ruled_then (λ _. AreDeclared program) (BreaksDeclared program) (λ _. Second) (λ _. SecondBreaks) (first_pass program) (λ _. behind_first) (declared_ruled program)
       (λ _ _. ruled_then (λ _. AreKnown program) (BreaksTypeNames program) (λ _. Third) (λ _. ThirdBreaks) (second_pass program) (λ _. behind_second) (names_ruled program)
       (λ _ _. ruled_then (λ _. AreRoles program) (BreaksRoles program) (λ _. Fourth) (λ _. FourthBreaks) (third_pass program) (λ _. behind_third)
-      (roles_ruled (names_of program) (table_of_program program) (state_of program) (functions_in program.declarations))
+      (roles_ruled (format_of program) (names_of program) (table_of_program program) (state_of program) (functions_in program.declarations))
       (λ _ _. fourth_ruled)))
 
   denotes : (P : tree.Program) → First P → Denotes program P
@@ -186,7 +187,7 @@ module _ (program : Program) where
   denoted : (P : tree.Program) → Denotes program P → First P
   denoted P h = (tt, h.declared, (tt, h.known, (tt, h.roles, (P.functions, h.functions, by P.format P.types P.state (sym h.format) (sym h.types) (sym h.state)))))
     where
-      by : (format : _) (types : List (List (List Ty))) (state : Ty) → program_format ≡ format → table_of_program program ≡ types → state_of program ≡ state
+      by : (format : _) (types : List (List (List Ty))) (state : Ty) → program_format program ≡ format → table_of_program program ≡ types → state_of program ≡ state
           → with_functions P.functions ≡ record { format = format; types = types; state = state; functions = P.functions }
       by format types state a b c = cc
 

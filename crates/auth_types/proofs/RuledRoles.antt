@@ -4,6 +4,7 @@ use Rattle.std.specs.Bool.{Decides}
 use Rattle.std.specs.List.{Contains}
 use Rattle.std.proofs.lemmas.Bool.Decides.{Decides-and, Decides-not}
 use Rattle.core_terms.specs.Types.{Ty, UnitTy, BoolTy, IntTy, TextTy, PairTy, NamedTy, AuthTy, VecTy, Table}
+use Rattle.core_terms.specs.declared.format.Format.{Format}
 use Rattle.core_terms.specs.Typing.{same_type}
 use Rattle.core_terms.specs.Roles.{some_passes, has_auth, has_auth_within}
 use Rattle.core_terms.proofs.Reach.{plain_by_test}
@@ -102,74 +103,74 @@ stands_at_last true d h = d.0 refl
 stands_at_last false d h = absurd (h (λ p. let f : false ≡ true = d.1 p in absurd (cc)))
 
 -- a pair of a new state and an answer
-new_decides : (names : List (List ℕ)) (table : Table) (state t : Ty) → Decides (is_new_state names table state t) ((answer : Ty) × (t ≡ PairTy state answer))
-new_decides names table state (PairTy new answer) = (λ e. (answer, ap (λ n. PairTy n answer) (sym (same_sound state new e))), λ (a, is). same_complete state new (cc))
-new_decides names table state UnitTy = (λ e. absurd (cc), λ (a, is). absurd (cc))
-new_decides names table state BoolTy = (λ e. absurd (cc), λ (a, is). absurd (cc))
-new_decides names table state IntTy = (λ e. absurd (cc), λ (a, is). absurd (cc))
-new_decides names table state TextTy = (λ e. absurd (cc), λ (a, is). absurd (cc))
-new_decides names table state (NamedTy number) = (λ e. absurd (cc), λ (a, is). absurd (cc))
-new_decides names table state (VecTy n t) = (λ e. absurd (cc), λ (a, is). absurd (cc))
-new_decides names table state (AuthTy t) = (λ e. absurd (cc), λ (a, is). absurd (cc))
+new_decides : (state t : Ty) → Decides (is_new_state state t) ((answer : Ty) × (t ≡ PairTy state answer))
+new_decides state (PairTy new answer) = (λ e. (answer, ap (λ n. PairTy n answer) (sym (same_sound state new e))), λ (a, is). same_complete state new (cc))
+new_decides state UnitTy = (λ e. absurd (cc), λ (a, is). absurd (cc))
+new_decides state BoolTy = (λ e. absurd (cc), λ (a, is). absurd (cc))
+new_decides state IntTy = (λ e. absurd (cc), λ (a, is). absurd (cc))
+new_decides state TextTy = (λ e. absurd (cc), λ (a, is). absurd (cc))
+new_decides state (NamedTy number) = (λ e. absurd (cc), λ (a, is). absurd (cc))
+new_decides state (VecTy n t) = (λ e. absurd (cc), λ (a, is). absurd (cc))
+new_decides state (AuthTy t) = (λ e. absurd (cc), λ (a, is). absurd (cc))
 
-module _ (names : List (List ℕ)) (table : Table) (state : Ty) where
+module _ (format : Format) (names : List (List ℕ)) (table : Table) (state : Ty) where
   -- the type that an argument is written with has `auth` in it
   abbrev HasAuth : TypeSyntax → Type 0
-  HasAuth argument = AuthStandsIn table (type_meant names argument)
+  HasAuth argument = AuthStandsIn table (type_meant format names argument)
 
   -- the third pass at a function, and what the rules say of it
   abbrev role_step : List FunctionSyntax → FunctionSyntax → Checking (Unit {0})
-  role_step before f = checked_role names table state f f.kind f.parameters
+  role_step before f = checked_role format names table state f f.kind f.parameters
 
   abbrev Fulfils : List FunctionSyntax → FunctionSyntax → Type 0
-  Fulfils = MeetsRole names table state
+  Fulfils = MeetsRole format names table state
 
   abbrev Violates : List FunctionSyntax → FunctionSyntax → TypeKind → Place → Type 0
-  Violates = BreaksRole names table state
+  Violates = BreaksRole format names table state
 
   -- the shapes, by kind
-  inner_shape : {parameters : List ParameterSyntax} {result argument : TypeSyntax} → HasShape names state InnerSyntax parameters result argument → ⊥
+  inner_shape : {parameters : List ParameterSyntax} {result argument : TypeSyntax} → HasShape format names state InnerSyntax parameters result argument → ⊥
   inner_shape h = elim h [ ]
 
-  init_shape : {p : ParameterSyntax} {result argument : TypeSyntax} → HasShape names state InitSyntax (p ∷ []) result argument → (state ≡ type_meant names result) × (p.of_type ≡ argument)
+  init_shape : {p : ParameterSyntax} {result argument : TypeSyntax} → HasShape format names state InitSyntax (p ∷ []) result argument → (state ≡ type_meant format names result) × (p.of_type ≡ argument)
   init_shape (InitShape is) = (sym is, refl)
 
-  query_shape : {s p : ParameterSyntax} {result argument : TypeSyntax} → HasShape names state QuerySyntax (s ∷ p ∷ []) result argument
-      → (state ≡ type_meant names s.of_type) × (p.of_type ≡ argument)
+  query_shape : {s p : ParameterSyntax} {result argument : TypeSyntax} → HasShape format names state QuerySyntax (s ∷ p ∷ []) result argument
+      → (state ≡ type_meant format names s.of_type) × (p.of_type ≡ argument)
   query_shape (QueryShape is) = (sym is, refl)
 
-  update_shape : {s p : ParameterSyntax} {result argument : TypeSyntax} → HasShape names state UpdateSyntax (s ∷ p ∷ []) result argument
-      → ((state ≡ type_meant names s.of_type) × ((answer : Ty) × (type_meant names result ≡ PairTy state answer))) × (p.of_type ≡ argument)
+  update_shape : {s p : ParameterSyntax} {result argument : TypeSyntax} → HasShape format names state UpdateSyntax (s ∷ p ∷ []) result argument
+      → ((state ≡ type_meant format names s.of_type) × ((answer : Ty) × (type_meant format names result ≡ PairTy state answer))) × (p.of_type ≡ argument)
   update_shape (UpdateShape {answer = answer} is gives) = ((sym is, (answer, gives)), refl)
 
   -- the wrong number of parameters
-  init_none : {result argument : TypeSyntax} → HasShape names state InitSyntax [] result argument → ⊥
+  init_none : {result argument : TypeSyntax} → HasShape format names state InitSyntax [] result argument → ⊥
   init_none h = elim h [ ]
 
-  init_two : {p q : ParameterSyntax} {rest : List ParameterSyntax} {result argument : TypeSyntax} → HasShape names state InitSyntax (p ∷ q ∷ rest) result argument → ⊥
+  init_two : {p q : ParameterSyntax} {rest : List ParameterSyntax} {result argument : TypeSyntax} → HasShape format names state InitSyntax (p ∷ q ∷ rest) result argument → ⊥
   init_two h = elim h [ ]
 
-  query_none : {result argument : TypeSyntax} → HasShape names state QuerySyntax [] result argument → ⊥
+  query_none : {result argument : TypeSyntax} → HasShape format names state QuerySyntax [] result argument → ⊥
   query_none h = elim h [ ]
 
-  query_one : {p : ParameterSyntax} {result argument : TypeSyntax} → HasShape names state QuerySyntax (p ∷ []) result argument → ⊥
+  query_one : {p : ParameterSyntax} {result argument : TypeSyntax} → HasShape format names state QuerySyntax (p ∷ []) result argument → ⊥
   query_one h = elim h [ ]
 
-  query_three : {p q r : ParameterSyntax} {rest : List ParameterSyntax} {result argument : TypeSyntax} → HasShape names state QuerySyntax (p ∷ q ∷ r ∷ rest) result argument → ⊥
+  query_three : {p q r : ParameterSyntax} {rest : List ParameterSyntax} {result argument : TypeSyntax} → HasShape format names state QuerySyntax (p ∷ q ∷ r ∷ rest) result argument → ⊥
   query_three h = elim h [ ]
 
-  update_none : {result argument : TypeSyntax} → HasShape names state UpdateSyntax [] result argument → ⊥
+  update_none : {result argument : TypeSyntax} → HasShape format names state UpdateSyntax [] result argument → ⊥
   update_none h = elim h [ ]
 
-  update_one : {p : ParameterSyntax} {result argument : TypeSyntax} → HasShape names state UpdateSyntax (p ∷ []) result argument → ⊥
+  update_one : {p : ParameterSyntax} {result argument : TypeSyntax} → HasShape format names state UpdateSyntax (p ∷ []) result argument → ⊥
   update_one h = elim h [ ]
 
-  update_three : {p q r : ParameterSyntax} {rest : List ParameterSyntax} {result argument : TypeSyntax} → HasShape names state UpdateSyntax (p ∷ q ∷ r ∷ rest) result argument → ⊥
+  update_three : {p q r : ParameterSyntax} {rest : List ParameterSyntax} {result argument : TypeSyntax} → HasShape format names state UpdateSyntax (p ∷ q ∷ r ∷ rest) result argument → ⊥
   update_three h = elim h [ ]
 
   module _ (f : FunctionSyntax) where
     abbrev IsShape : KindSyntax → List ParameterSyntax → TypeSyntax → Type 0
-    IsShape kind parameters argument = HasShape names state kind parameters f.result_type argument
+    IsShape kind parameters argument = HasShape format names state kind parameters f.result_type argument
 
     -- a fact on its types fails, or its argument has `auth` in it
     abbrev Misfit : Type 0 → TypeSyntax → TypeKind → Place → Type 0
@@ -200,29 +201,29 @@ module _ (names : List (List ℕ)) (table : Table) (state : Ty) where
 
     fitting : (kind : KindSyntax) (parameters : List ParameterSyntax) (argument : TypeSyntax) (b : Bool) (P : Type 0) → (kind ≡ InnerSyntax → ⊥) → Decides b P
         → (P → IsShape kind parameters argument) → ((other : TypeSyntax) → IsShape kind parameters other → P × (argument ≡ other))
-        → Ruled (plain_argument names table f b argument) (λ _. Meets kind parameters) (Breaks kind parameters)
+        → Ruled (plain_argument format names table f b argument) (λ _. Meets kind parameters) (Breaks kind parameters)
     fitting kind parameters argument b P entered d shaped shape =
         let Auth = HasAuth argument in
         let Plain : Type 0 = Auth → ⊥ in
         let G : TypeKind → Place → Type 0 = λ k p. ((Plain → ⊥) × (AuthInArgument ≡ k) × (place_of_type argument ≡ p)) ⊎ (Plain × ⊥) in
-        let auth = auth_decides table (type_meant names argument) in
-        ruled_like (plain_argument names table f b argument) (λ _. P × (Plain × Unit {0})) (λ _. Meets kind parameters)
+        let auth = auth_decides table (type_meant format names argument) in
+        ruled_like (plain_argument format names table f b argument) (λ _. P × (Plain × Unit {0})) (λ _. Meets kind parameters)
         (λ k p. ((P → ⊥) × (RoleShape ≡ k) × (f.name.at ≡ p)) ⊎ (P × G k p)) (Breaks kind parameters)
         (λ _ h. inr (argument, shaped h.0, h.1.0)) (λ _ h. met h) breaks broken
-        (ruled_unless P (λ _. Plain × Unit {0}) G b RoleShape f.name.at (unless_fault (not (has_auth table (type_meant names argument))) AuthInArgument (place_of_type argument) fine) d
-        (λ _. ruled_unless Plain (λ _. Unit {0}) (λ k p. ⊥) (not (has_auth table (type_meant names argument))) AuthInArgument (place_of_type argument) fine
-        (Decides-not (has_auth table (type_meant names argument)) auth) (λ _. nothing_left)))
+        (ruled_unless P (λ _. Plain × Unit {0}) G b RoleShape f.name.at (unless_fault (not (has_auth table (type_meant format names argument))) AuthInArgument (place_of_type argument) fine) d
+        (λ _. ruled_unless Plain (λ _. Unit {0}) (λ k p. ⊥) (not (has_auth table (type_meant format names argument))) AuthInArgument (place_of_type argument) fine
+        (Decides-not (has_auth table (type_meant format names argument)) auth) (λ _. nothing_left)))
       where
         met : Meets kind parameters → P × ((HasAuth argument → ⊥) × Unit {0})
         met (inl inner) = absurd (entered inner)
-        met (inr (other, h, plain)) = let (p, same) = shape other h in (p, (subst (λ t. AuthStandsIn table (type_meant names t) → ⊥) (sym same) plain, tt))
+        met (inr (other, h, plain)) = let (p, same) = shape other h in (p, (subst (λ t. AuthStandsIn table (type_meant format names t) → ⊥) (sym same) plain, tt))
 
         breaks : (k : TypeKind) (p : Place)
             → Misfit P argument k p
             → Breaks kind parameters k p
         breaks k p (inl (never, same, here)) = inl (entered, λ other h. never (shape other h).0, same, here)
         breaks k p (inr (holds, inl (auth, same, here))) =
-            inr (argument, shaped holds, stands_at_last (has_auth table (type_meant names argument)) (auth_decides table (type_meant names argument)) auth, same, here)
+            inr (argument, shaped holds, stands_at_last (has_auth table (type_meant format names argument)) (auth_decides table (type_meant format names argument)) auth, same, here)
         breaks k p (inr (holds, inr (plain, never))) = absurd never
 
         broken : (k : TypeKind) (p : Place) → Breaks kind parameters k p
@@ -230,9 +231,9 @@ module _ (names : List (List ℕ)) (table : Table) (state : Ty) where
         broken k p (inl (entered, never, same, here)) = inl (λ holds. never argument (shaped holds), same, here)
         broken k p (inr (other, h, auth, same, here)) =
             let (holds, is) = shape other h in
-            inr (holds, inl (λ plain. plain (subst (λ t. AuthStandsIn table (type_meant names t)) (sym is) auth), same, ap place_of_type is ∙ here))
+            inr (holds, inl (λ plain. plain (subst (λ t. AuthStandsIn table (type_meant format names t)) (sym is) auth), same, ap place_of_type is ∙ here))
 
-    role_judged : (kind : KindSyntax) (parameters : List ParameterSyntax) → Ruled (checked_role names table state f kind parameters) (λ _. Meets kind parameters) (Breaks kind parameters)
+    role_judged : (kind : KindSyntax) (parameters : List ParameterSyntax) → Ruled (checked_role format names table state f kind parameters) (λ _. Meets kind parameters) (Breaks kind parameters)
     role_judged InnerSyntax parameters = record { judged = inl refl; passes = λ a h. refl; tells = λ k p b. told k p b }
       where
         told : (k : TypeKind) (p : Place) → Breaks InnerSyntax parameters k p → fine ≡ FaultAt k p
@@ -240,25 +241,25 @@ module _ (names : List (List ℕ)) (table : Table) (state : Ty) where
         told k p (inr (argument, shape, auth, same, here)) = absurd (inner_shape shape)
     role_judged InitSyntax [] = misshapen InitSyntax [] (λ e. absurd (cc)) (λ argument h. init_none h)
     role_judged InitSyntax (p ∷ []) =
-        fitting InitSyntax (p ∷ []) p.of_type (same_type state (type_meant names f.result_type)) (state ≡ type_meant names f.result_type) (λ e. absurd (cc))
-        (type_decides state (type_meant names f.result_type))
+        fitting InitSyntax (p ∷ []) p.of_type (same_type state (type_meant format names f.result_type)) (state ≡ type_meant format names f.result_type) (λ e. absurd (cc))
+        (type_decides state (type_meant format names f.result_type))
         (λ is. InitShape (sym is)) (λ other h. init_shape h)
     role_judged InitSyntax (p ∷ q ∷ rest) = misshapen InitSyntax (p ∷ q ∷ rest) (λ e. absurd (cc)) (λ argument h. init_two h)
     role_judged QuerySyntax [] = misshapen QuerySyntax [] (λ e. absurd (cc)) (λ argument h. query_none h)
     role_judged QuerySyntax (s ∷ []) = misshapen QuerySyntax (s ∷ []) (λ e. absurd (cc)) (λ argument h. query_one h)
     role_judged QuerySyntax (s ∷ p ∷ []) =
-        fitting QuerySyntax (s ∷ p ∷ []) p.of_type (same_type state (type_meant names s.of_type)) (state ≡ type_meant names s.of_type) (λ e. absurd (cc))
-        (type_decides state (type_meant names s.of_type))
+        fitting QuerySyntax (s ∷ p ∷ []) p.of_type (same_type state (type_meant format names s.of_type)) (state ≡ type_meant format names s.of_type) (λ e. absurd (cc))
+        (type_decides state (type_meant format names s.of_type))
         (λ is. QueryShape (sym is)) (λ other h. query_shape h)
     role_judged QuerySyntax (s ∷ p ∷ q ∷ rest) = misshapen QuerySyntax (s ∷ p ∷ q ∷ rest) (λ e. absurd (cc)) (λ argument h. query_three h)
     role_judged UpdateSyntax [] = misshapen UpdateSyntax [] (λ e. absurd (cc)) (λ argument h. update_none h)
     role_judged UpdateSyntax (s ∷ []) = misshapen UpdateSyntax (s ∷ []) (λ e. absurd (cc)) (λ argument h. update_one h)
     role_judged UpdateSyntax (s ∷ p ∷ []) =
-        let first = type_meant names s.of_type in
-        let result = type_meant names f.result_type in
-        fitting UpdateSyntax (s ∷ p ∷ []) p.of_type (same_type state first && is_new_state names table state result)
+        let first = type_meant format names s.of_type in
+        let result = type_meant format names f.result_type in
+        fitting UpdateSyntax (s ∷ p ∷ []) p.of_type (same_type state first && is_new_state state result)
         ((state ≡ first) × ((answer : Ty) × (result ≡ PairTy state answer))) (λ e. absurd (cc))
-        (Decides-and (same_type state first) (is_new_state names table state result) (type_decides state first) (new_decides names table state result))
+        (Decides-and (same_type state first) (is_new_state state result) (type_decides state first) (new_decides state result))
         (λ (is, (answer, gives)). UpdateShape (sym is) gives) (λ other h. update_shape h)
     role_judged UpdateSyntax (s ∷ p ∷ q ∷ rest) = misshapen UpdateSyntax (s ∷ p ∷ q ∷ rest) (λ e. absurd (cc)) (λ argument h. update_three h)
 
@@ -285,12 +286,12 @@ module _ (names : List (List ℕ)) (table : Table) (state : Ty) where
       broken _ _ (IsMisshapen entered never) = inl (entered, never, refl, refl)
       broken _ _ (PassesAuth {argument = argument} shape auth) = inr (argument, shape, auth, refl, refl)
 
-  roles_each : (before fs : List FunctionSyntax) → checked_roles names table state fs ≡ each_checked role_step before fs
+  roles_each : (before fs : List FunctionSyntax) → checked_roles format names table state fs ≡ each_checked role_step before fs
   roles_each before [] = refl
   roles_each before (f ∷ fs) = ap (λ r. then_checked (role_step before f) (λ _. r)) (roles_each (before ++ f ∷ []) fs)
 
-  pub roles_ruled : (fs : List FunctionSyntax) → Ruled (checked_roles names table state fs) (λ _. EachMeets Fulfils [] fs) (OneBreaks Fulfils Violates [] fs)
+  pub roles_ruled : (fs : List FunctionSyntax) → Ruled (checked_roles format names table state fs) (λ _. EachMeets Fulfils [] fs) (OneBreaks Fulfils Violates [] fs)
   roles_ruled fs =
-      ruled_same (checked_roles names table state fs) (each_checked role_step [] fs) (λ _. EachMeets Fulfils [] fs)
+      ruled_same (checked_roles format names table state fs) (each_checked role_step [] fs) (λ _. EachMeets Fulfils [] fs)
       (OneBreaks Fulfils Violates [] fs) (roles_each [] fs)
       (each_ruled Fulfils Violates role_step role_ruled [] fs)

@@ -1,23 +1,25 @@
 -- An expression that passes has the type that it says.
-use Rattle.std.proofs.Common.{◌≡◌, ℕ, suc, ◌+◌, ◌<◌, Bool, true, false, List, [], ◌∷◌, ◌++◌, length, map, Option, Some, None, option_map, slice_get, unwrap_or, bytes_eq, if◌then◌else◌, nat_eq, nat_lt, eqb-true, refl, sym, ap, ◌∙◌, subst, append_assoc, arith}
+use Rattle.std.proofs.Common.{◌≡◌, inl, inr, ℕ, suc, ◌+◌, ◌<◌, Bool, true, false, List, [], ◌∷◌, ◌++◌, length, map, Option, Some, None, option_map, slice_get, unwrap_or, bytes_eq, if◌then◌else◌, nat_eq, nat_lt, eqb-true, refl, sym, ap, ◌∙◌, subst, append_assoc, arith}
 use Rattle.std.proofs.lemmas.Option.{slice_get-get_or, slice_get-map}
 use Rattle.std.proofs.lemmas.List.{append-nil, length-map, map-append}
 use Rattle.core_terms.specs.declared.term.BinaryOperator.TheVariants.{Arith, Compare, TextCompare, Cat}
 use Rattle.core_terms.specs.declared.term.BinaryOperator.{BinaryOperator}
 use Rattle.core_terms.specs.Types.{Ty, UnitTy, BoolTy, TextTy, PairTy, NamedTy, AuthTy, Table, OnFields, fields_at}
-use Rattle.core_terms.specs.Terms.{Expression, AuthE, CallE, ConE, Expressions, Function, HasType, HaveArms, HaveTypes, OnFunction}
+use Rattle.core_terms.specs.Terms.{Expression, AndE, AuthE, CallE, ConE, OperateE, Expressions, Function, HasType, HaveArms, HaveTypes, OnFunction}
 use Rattle.core_terms.specs.Terms as tree
 use Rattle.core_terms.specs.Typing.{same_type}
 use Rattle.core_terms.proofs.TypingSound.{same_sound}
-use Rattle.auth_syntax.specs.Syntax.{NameSyntax, ExpSyntax, UnitSyntax, BoolSyntax, IntSyntax, TextSyntax, LocalSyntax, PairSyntax, UnarySyntax, BinarySyntax, CallSyntax, ConstructorSyntax, LetSyntax, IfSyntax, MatchSyntax, ExpsSyntax, NoExp, AndExp, ArmsSyntax, NoArmSyntax, AndArmSyntax, UnaryOperation, FstOperation, SndOperation, AuthOperation, UnauthOperation, LenOperation, NotOperation, place_of}
+use Rattle.auth_syntax.specs.Syntax.{NameSyntax, ExpSyntax, UnitSyntax, BoolSyntax, IntSyntax, TextSyntax, LocalSyntax, PairSyntax, UnarySyntax, BinarySyntax, CallSyntax, ConstructorSyntax, OperateSyntax, LetSyntax, IfSyntax, MatchSyntax, ExpsSyntax, NoExp, AndExp, ArmsSyntax, NoArmSyntax, AndArmSyntax, UnaryOperation, FstOperation, SndOperation, AuthOperation, UnauthOperation, LenOperation, NotOperation, ArrayOperation, place_of}
+use Rattle.auth_syntax.specs.Grammar.{others_of}
 use Rattle.lexemes.specs.declared.place.Place.{Place}
-use Rattle.declared_types.specs.Checking.{Checking, Sound, FaultAt, is_among, unless_fault}
-use Rattle.auth_types.specs.Bodies.{Local, Typed, TypedArms, arm_names, binary, binary_expression, bound_names, called, constructed, count_of, elaborated, elaborated_arms, elaborated_each, first_of, last_named, local_at, matched, most_locals, opened, operand_type, or_else, pair, result_type, same_names, second_of, typed, unary, wanted, wanted_arm}
+use Rattle.declared_types.specs.Checking.{Checking, Sound, FaultAt, is_among, then_checked, unless_fault}
+use Rattle.auth_types.specs.Bodies.{Local, Typed, TypedArms, arm_names, binary, binary_expression, bound_names, called, constructed, count_of, elaborated, elaborated_arms, elaborated_each, first_of, last_named, local_at, matched, may_begin, most_locals, opened, operand_type, operated as on_arrays, operated_on, or_else, pair, result_type, same_names, second_of, typed, unary, wanted, wanted_arm}
 use Rattle.declared_types.specs.Signatures.{Numbered, Scope, Signature, constructor_named, function_named}
 use Rattle.auth_types.specs.CheckedLaws.{ArmsHaveGoodLiterals, ElaboratedHasType, HasGoodLiterals, HaveGoodLiterals, IsScopeOf, signature, types_of_locals}
-use Rattle.declared_types.specs.declared.fault.TypeKind.TheVariants.{ArmsWrong, Limit, Twice, WrongCount, WrongType}
+use Rattle.declared_types.specs.declared.fault.TypeKind.TheVariants.{ArmsWrong, Limit, NotVec, Twice, WrongCount, WrongType}
 use Rattle.declared_types.specs.declared.fault.Limited.TheVariants.{Locals}
 use Rattle.declared_types.proofs.SoundSteps.{Gives, given, gives_more, gives_then, gives_unless}
+use Rattle.auth_types.proofs.TakenArrays.{IsRuled, taken_ruled, takes_count, takes_operands, takes_operation}
 use Rattle.declared_types.proofs.SoundNames.{AsMany, as_many_at, constructor_there, function_there}
 
 -- the number of a name is that of one of the locals, which stand behind n others
@@ -233,6 +235,30 @@ module _ (P : tree.Program) where
         (λ same. gives_then (EachFits locals types) (Fits locals) (fields types) _ (each types (eqb-true count (length types) same))
         (λ es h. constructor_has_type locals name c es there h))
 
+    -- an operation on arrays, behind its first operand
+    operated_on_fits : (locals : List Local) (operation : ArrayOperation) (at : Place) (others : List Ty → Checking Expressions) (x : Typed) → Fits locals x
+        → ((ts : List Ty) → length ts ≡ others_of operation → Gives (EachFits locals ts) (others ts))
+        → IsRuled scope.format operation at x.of_type → Gives (Fits locals) (operated_on scope.format operation at others x)
+    operated_on_fits locals operation at others x hx each (inl (op, ts, takes, is)) =
+        subst (λ c. Gives (Fits locals) (then_checked c (λ taken. then_checked (others taken.others)
+        (λ xs. typed (OperateE taken.operation (AndE x.expression xs)) (tree.result_type taken.operation))))) (sym is)
+        (gives_then (EachFits locals ts) (Fits locals) (others ts) _ (each ts (takes_count takes))
+        (λ xs hxs. (refl, takes_operation takes, subst (HaveTypes P (types_of_locals locals) (AndE x.expression xs)) (sym (takes_operands takes)) (hx, hxs))))
+    operated_on_fits locals operation at others x hx each (inr (none, is)) =
+        subst (λ c. Gives (Fits locals) (then_checked c (λ taken. then_checked (others taken.others)
+        (λ xs. typed (OperateE taken.operation (AndE x.expression xs)) (tree.result_type taken.operation))))) (sym is) tt
+
+    operated_fits : (locals : List Local) (at : Place) (operation : ArrayOperation) (count : ℕ) (place : Place) (first : Checking Typed)
+        (others : List Ty → Checking Expressions) → Gives (Fits locals) first
+        → ((ts : List Ty) → count ≡ length ts → Gives (EachFits locals ts) (others ts))
+        → Gives (Fits locals) (on_arrays scope.format at operation count place first others)
+    operated_fits locals at operation count place first others h each =
+        gives_unless (Fits locals) (nat_eq count (others_of operation)) WrongCount at _
+        (λ same. gives_unless (Fits locals) (may_begin scope.format operation) NotVec at _
+        (λ may. gives_then (Fits locals) (Fits locals) first (operated_on scope.format operation place others) h
+        (λ x hx. operated_on_fits locals operation place others x hx (λ ts many. each ts (eqb-true count (others_of operation) same ∙ sym many))
+        (taken_ruled scope.format operation place x.of_type may))))
+
     -- a match, whose arms have the fields of the constructors
     matched_fits : (locals : List Local) (at subject : Place) (e : Expression) (t : Ty) (names : List (List ℕ))
         (arms : List (List Ty) → Checking TypedArms) → HasType P (types_of_locals locals) e t
@@ -272,6 +298,10 @@ module _ (P : tree.Program) where
       elaborated_fits locals (ConstructorSyntax at name xs) good =
           constructed_fits locals at (count_of xs) name (constructor_named 0 scope.constructors name) (elaborated_each scope locals xs) refl
           (λ ts same. each_fits locals xs ts good same)
+      elaborated_fits locals (OperateSyntax at operation NoExp) good = tt
+      elaborated_fits locals (OperateSyntax at operation (AndExp x xs)) good =
+          operated_fits locals at operation (count_of xs) (place_of x) (elaborated scope locals x) (elaborated_each scope locals xs)
+          (elaborated_fits locals x good.0) (λ ts same. each_fits locals xs ts good.1 same)
       elaborated_fits locals (LetSyntax at name x body) good =
           gives_then (Fits locals) (Fits locals) (elaborated scope locals x) _ (elaborated_fits locals x good.0)
           (λ e he. gives_unless (Fits locals) (nat_lt (length locals) most_locals) (Limit Locals) name.at _

@@ -8,11 +8,14 @@ use Rattle.std.proofs.lemmas.Bool.{leb-true}
 use Rattle.std.proofs.lemmas.List.Elements.{All-cons, All-nil}
 use Rattle.std.proofs.lemmas.Str.{IsUtf8-from_is_utf8}
 use Rattle.core_terms.specs.Values.{int_fits}
+use Rattle.core_terms.specs.declared.format.Format.{Format}
 use Rattle.lexemes.specs.declared.place.Place.{Place}
+use Rattle.lexemes.specs.declared.token.Mark.TheVariants.{LeftParenthesis}
 use Rattle.lexemes.specs.Places.{behind_byte}
-use Rattle.lexemes.specs.Tokens.{Token, LowerToken, UpperToken, IntToken, TextToken, Tokens, Next, End, Faulty, Piece, PassedOver, Taken, Wrong, Quoted, Closed, CutOff, WrongAt, is_blank, keyword_of, name_limit, text_limit, name_piece, lower_piece, negative, int_piece, digits_of, minus_piece, quoted_behind, text_piece, word_of, mark_of, mark_piece, first_piece, from_piece, tokens_behind, tokens}
-use Rattle.auth_syntax.specs.Syntax.{ExpSyntax, UnitSyntax, BoolSyntax, IntSyntax, TextSyntax, LocalSyntax, PairSyntax, UnarySyntax, BinarySyntax, CallSyntax, ConstructorSyntax, LetSyntax, IfSyntax, MatchSyntax, ExpsSyntax, NoExp, AndExp, ArmsSyntax, NoArmSyntax, AndArmSyntax, DeclarationSyntax, TypeDeclaration, StateDeclaration, FunctionDeclaration, FunctionSyntax, Program}
-use Rattle.auth_syntax.specs.Grammar.{Written, AreWritten, arms_tokens, declaration_tokens, declarations_tokens, expression_tokens, expressions_tokens, in_parentheses, mark, names_tokens, parameters_tokens, type_tokens}
+use Rattle.lexemes.specs.Tokens.{Token, LowerToken, UpperToken, IntToken, TextToken, Tokens, Next, End, Faulty, Piece, PassedOver, Taken, Wrong, Quoted, Closed, CutOff, WrongAt, is_blank, keyword_of, name_limit, text_limit, name_piece, lower_piece, negative, int_piece, digits_of, minus_piece, quoted_behind, text_piece, word_of, mark_of, mark_piece, first_piece, from_piece, tokens_behind}
+use Rattle.auth_syntax.specs.Syntax.{ExpSyntax, UnitSyntax, BoolSyntax, IntSyntax, TextSyntax, LocalSyntax, PairSyntax, UnarySyntax, BinarySyntax, CallSyntax, ConstructorSyntax, OperateSyntax, LetSyntax, IfSyntax, MatchSyntax, ExpsSyntax, NoExp, AndExp, ArmsSyntax, NoArmSyntax, AndArmSyntax, DeclarationSyntax, TypeDeclaration, StateDeclaration, FunctionDeclaration, FunctionSyntax, Program}
+use Rattle.auth_syntax.specs.Grammar.{Written, AreWritten, arms_tokens, brackets, declaration_tokens, declarations_tokens, expression_tokens, expressions_tokens, format_tokens, in_parentheses, mark, names_tokens, parameters_tokens, program_tokens, type_tokens}
+use Rattle.auth_syntax.specs.ProgramTokens.{text_tokens}
 use Rattle.auth_syntax.specs.Parsing.{parsed, Tree}
 use Rattle.auth_syntax.proofs.Exact.{parsed_is_written}
 use Rattle.declared_types.specs.WrittenTypes.{functions_in}
@@ -36,8 +39,8 @@ either_good false x y first other = other refl
 name_good : (token : Token) (word : List ℕ) → IsGood token → IsGoodPiece (name_piece token word)
 name_good token word h = either_good (nat_le (length word) name_limit) _ _ (λ _. h) (λ _. tt)
 
-word_good : (word : List ℕ) → IsGoodPiece (lower_piece (keyword_of word) word)
-word_good word = elim (keyword_of word) as (λ keyword. IsGoodPiece (lower_piece keyword word))
+word_good : (format : Format) (word : List ℕ) → IsGoodPiece (lower_piece (keyword_of format word) word)
+word_good format word = elim (keyword_of format word) as (λ keyword. IsGoodPiece (lower_piece keyword word))
     [ Some keyword ↦ tt | None ↦ name_good (LowerToken word) word tt ]
 
 negative_fits : (n : ℕ) → n ≤ 2 ^ 63 → int_fits (negative n) ≡ true
@@ -64,19 +67,19 @@ text_good (Closed bytes size) =
 text_good CutOff = tt
 text_good (WrongAt kind offset) = tt
 
-mark_good : (b : ℕ) → IsGoodPiece (mark_piece (mark_of b))
-mark_good b = elim (mark_of b) as (λ mark. IsGoodPiece (mark_piece mark)) [ Some mark ↦ tt | None ↦ tt ]
+mark_good : (format : Format) (b : ℕ) → IsGoodPiece (mark_piece (mark_of format b))
+mark_good format b = elim (mark_of format b) as (λ found. IsGoodPiece (mark_piece found)) [ Some found ↦ tt | None ↦ tt ]
 
-first_good : (b : ℕ) (rest : List ℕ) → IsGoodPiece (first_piece b rest)
-first_good b rest =
+first_good : (format : Format) (b : ℕ) (rest : List ℕ) → IsGoodPiece (first_piece format b rest)
+first_good format b rest =
     let text = b ∷ rest in
     either_good (is_blank b) _ _ (λ _. tt) (λ _.
     either_good (b == 35) _ _ (λ _. tt) (λ _.
-    either_good (is_ascii_lowercase b) _ _ (λ _. word_good (word_of text)) (λ _.
+    either_good (is_ascii_lowercase b) _ _ (λ _. word_good format (word_of text)) (λ _.
     either_good (is_ascii_uppercase b) _ _ (λ _. name_good (UpperToken (word_of text)) (word_of text) tt) (λ _.
     either_good (is_ascii_digit b) _ _ (λ _. int_good false (digits_of text) (length (digits_of text))) (λ _.
     either_good (b == 45) _ _ (λ _. minus_good rest) (λ _.
-    either_good (b == 34) _ _ (λ _. text_good (quoted_behind zero 1 rest)) (λ _. mark_good b)))))))
+    either_good (b == 34) _ _ (λ _. text_good (quoted_behind zero 1 rest)) (λ _. mark_good format b)))))))
 
 abbrev AreGood : Tokens → Type 0
 AreGood (Next at token rest) = IsGood token × AreGood rest
@@ -89,12 +92,12 @@ piece_first (PassedOver size) at bytes go h others = others size
 piece_first (Taken token size) at bytes go h others = (h, others size)
 piece_first (Wrong kind offset) at bytes go h others = tt
 
-tokens_good : (n : ℕ) (at : Place) (text : List ℕ) → AreGood (tokens_behind n at text)
-tokens_good n at [] = tt
-tokens_good (suc n) at (b ∷ rest) = tokens_good n (behind_byte at b) rest
-tokens_good zero at (b ∷ rest) =
-    piece_first (first_piece b rest) at (b ∷ rest) (λ size. tokens_behind (size - 1) (behind_byte at b) rest) (first_good b rest)
-    (λ size. tokens_good (size - 1) (behind_byte at b) rest)
+tokens_good : (format : Format) (n : ℕ) (at : Place) (text : List ℕ) → AreGood (tokens_behind format n at text)
+tokens_good format n at [] = tt
+tokens_good format (suc n) at (b ∷ rest) = tokens_good format n (behind_byte at b) rest
+tokens_good format zero at (b ∷ rest) =
+    piece_first (first_piece format b rest) at (b ∷ rest) (λ size. tokens_behind format (size - 1) (behind_byte at b) rest) (first_good format b rest)
+    (λ size. tokens_good format (size - 1) (behind_byte at b) rest)
 
 -- the tokens of a tree
 abbrev AllGood : List Written → Type 0
@@ -130,6 +133,9 @@ mutual
       let (first, second) = parts_good (expression_tokens x) _ (parts_good _ _ h.1.1).0 in (literals_good x first, literals_good y second.1)
   literals_good (CallSyntax at name xs) h = each_good xs (parts_good (expressions_tokens xs) _ h.1.1).0
   literals_good (ConstructorSyntax at name xs) h = each_good xs (inside_good (expressions_tokens xs) h.1)
+  literals_good (OperateSyntax at operation xs) h =
+      let (behind, end) = parts_good (brackets operation ++ mark LeftParenthesis ∷ expressions_tokens xs) _ h.1 in
+      each_good xs (parts_good (brackets operation) (mark LeftParenthesis ∷ expressions_tokens xs) behind).1.1
   literals_good (LetSyntax at name x body) h =
       let (first, second) = parts_good (expression_tokens x) _ h.1.1.1 in (literals_good x first, literals_good body second.1)
   literals_good (IfSyntax at test x y) h =
@@ -172,5 +178,6 @@ declarations_good (FunctionDeclaration at f ∷ ds) h =
 pub parsed_has_good_literals : (text : List ℕ) (program : Program) → parsed text ≡ Tree program
     → ProgramHasGoodLiterals program
 parsed_has_good_literals text program is =
-    declarations_good program.declarations (written_good (tokens text) (declarations_tokens program.declarations) program.end
-    (parsed_is_written text program is).written (tokens_good 0 _ text))
+    declarations_good program.declarations (parts_good (format_tokens program.format) (declarations_tokens program.declarations)
+    (written_good (text_tokens text) (program_tokens program.format program.declarations) program.end
+    (parsed_is_written text program is).written (tokens_good _ 0 _ text))).1

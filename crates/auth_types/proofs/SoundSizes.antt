@@ -10,15 +10,15 @@ use Rattle.core_terms.specs.Terms.{Expression, AuthE, Expressions, Arms}
 use Rattle.core_terms.specs.Typing.{same_type}
 use Rattle.core_terms.specs.ProgramLimits.{expressions_in, expressions_in_arms, expressions_in_row, levels_of, levels_of_arms, levels_of_row, locals_in, locals_in_arms, locals_in_row}
 use Rattle.lexemes.specs.declared.place.Place.{Place}
-use Rattle.auth_syntax.specs.Syntax.{NameSyntax, ExpSyntax, UnitSyntax, BoolSyntax, IntSyntax, TextSyntax, LocalSyntax, PairSyntax, UnarySyntax, BinarySyntax, CallSyntax, ConstructorSyntax, LetSyntax, IfSyntax, MatchSyntax, ExpsSyntax, NoExp, AndExp, ArmsSyntax, NoArmSyntax, AndArmSyntax, UnaryOperation, FstOperation, SndOperation, AuthOperation, UnauthOperation, LenOperation, NotOperation, place_of}
-use Rattle.auth_syntax.specs.Grammar.{arms_levels, expression_levels, expressions_levels}
+use Rattle.auth_syntax.specs.Syntax.{NameSyntax, ExpSyntax, UnitSyntax, BoolSyntax, IntSyntax, TextSyntax, LocalSyntax, PairSyntax, UnarySyntax, BinarySyntax, CallSyntax, ConstructorSyntax, OperateSyntax, LetSyntax, IfSyntax, MatchSyntax, ExpsSyntax, NoExp, AndExp, ArmsSyntax, NoArmSyntax, AndArmSyntax, UnaryOperation, FstOperation, SndOperation, AuthOperation, UnauthOperation, LenOperation, NotOperation, ArrayOperation, place_of}
+use Rattle.auth_syntax.specs.Grammar.{arms_levels, expression_levels, expressions_levels, others_of}
 use Rattle.auth_syntax.specs.TreeLimits as written
 use Rattle.declared_types.specs.Checking.{Checking, Sound, FaultAt, is_among, unless_fault}
-use Rattle.auth_types.specs.Bodies.{Local, Typed, TypedArms, arm_names, binary, binary_expression, bound_names, called, constructed, count_of, elaborated, elaborated_arms, elaborated_each, first_of, last_named, local_at, matched, most_locals, opened, operand_type, pair, same_names, second_of, typed, unary, wanted, wanted_arm}
+use Rattle.auth_types.specs.Bodies.{Local, Typed, TypedArms, arm_names, binary, binary_expression, bound_names, called, constructed, count_of, elaborated, elaborated_arms, elaborated_each, first_of, last_named, local_at, matched, may_begin, most_locals, opened, operand_type, operated as on_arrays, operated_on, pair, same_names, second_of, taken_by, typed, unary, wanted, wanted_arm}
 use Rattle.declared_types.specs.Signatures.{Numbered, Scope, Signature, constructor_named, function_named}
-use Rattle.declared_types.specs.declared.fault.TypeKind.TheVariants.{ArmsWrong, Limit, Twice, WrongCount, WrongType}
+use Rattle.declared_types.specs.declared.fault.TypeKind.TheVariants.{ArmsWrong, Limit, NotVec, Twice, WrongCount, WrongType}
 use Rattle.declared_types.specs.declared.fault.Limited.TheVariants.{Locals}
-use Rattle.declared_types.proofs.SoundSteps.{Gives, gives_more, gives_then, gives_unless}
+use Rattle.declared_types.proofs.SoundSteps.{Gives, gives_any, gives_more, gives_then, gives_unless}
 
 -- the names that a pattern binds stand behind the other locals, and they are not too many
 record IsBound (locals : List Local) (ts : List Ty) (inner : List Local) : Type 0 where
@@ -180,6 +180,23 @@ module _ (scope : Scope) where
       (λ _. gives_then (AreSized n c l) (Sized n (suc c) (suc l)) (fields types) _ (each types)
       (λ es h. record { few = omega (arith, h.few); flat = omega (arith, h.flat); room = λ r. h.room r }))
 
+  -- an operation on arrays
+  operated_sized : (n c d l m : ℕ) (at : Place) (operation : ArrayOperation) (count : ℕ) (place : Place) (first : Checking Typed)
+      (others : List Ty → Checking Expressions) → Gives (Sized n c l) first → ((ts : List Ty) → Gives (AreSized n d m) (others ts))
+      → Gives (Sized n (suc (c + d)) (suc (max l m))) (on_arrays scope.format at operation count place first others)
+  operated_sized n c d l m at operation count place first others h each =
+      let R : Typed → Type 0 = Sized n (suc (c + d)) (suc (max l m)) in
+      gives_unless R (nat_eq count (others_of operation)) WrongCount at _
+      (λ _. gives_unless R (may_begin scope.format operation) NotVec at _
+      (λ _. gives_then (Sized n c l) R first (operated_on scope.format operation place others) h
+      (λ x hx. gives_then (λ _. Unit {0}) R (taken_by scope.format operation place x.of_type) _ (gives_any (taken_by scope.format operation place x.of_type))
+      (λ taken _. gives_then (AreSized n d m) R (others taken.others) _ (each taken.others)
+      (λ xs hxs. record {
+        few = omega (arith, hx.few, hxs.few);
+        flat = omega (arith, hx.flat, hxs.flat);
+        room = λ r. max-le (hx.room r) (hxs.room r);
+      })))))
+
   -- a match
   matched_sized : (n c d l m : ℕ) (at subject : Place) (e : Expression) (t : Ty) (names : List (List ℕ)) (arms : List (List Ty) → Checking TypedArms)
       → IsSized n c l e → ((rows : List (List Ty)) → Gives (λ found. AreArmsSized n d m rows found.arms) (arms rows))
@@ -224,6 +241,10 @@ module _ (scope : Scope) where
     elaborated_sized locals (ConstructorSyntax at name xs) =
         constructed_sized (length locals) (written.expressions_in_row xs) (expressions_levels xs) at (count_of xs) (constructor_named 0 scope.constructors name)
         (elaborated_each scope locals xs) (λ ts. each_sized locals xs ts)
+    elaborated_sized locals (OperateSyntax at operation NoExp) = tt
+    elaborated_sized locals (OperateSyntax at operation (AndExp x xs)) =
+        operated_sized (length locals) (written.expressions_in x) (written.expressions_in_row xs) (expression_levels x) (expressions_levels xs) at operation
+        (count_of xs) (place_of x) (elaborated scope locals x) (elaborated_each scope locals xs) (elaborated_sized locals x) (λ ts. each_sized locals xs ts)
     elaborated_sized locals (LetSyntax at name x body) =
         let R : Typed → Type 0 = Sized (length locals) (written.expressions_in (LetSyntax at name x body)) (expression_levels (LetSyntax at name x body)) in
         gives_then (Sized (length locals) (written.expressions_in x) (expression_levels x)) R (elaborated scope locals x) _ (elaborated_sized locals x)

@@ -6,16 +6,17 @@ use Rattle.core_terms.specs.Texts.{bytes_of}
 use Rattle.core_terms.specs.declared.term.Name.{Name}
 use Rattle.core_terms.specs.declared.term.Text.{Text}
 use Rattle.auth_syntax.specs.Parsing.{in_a_row}
-use Rattle.auth_syntax.specs.Syntax.{UnitSyntax, BoolSyntax, IntSyntax, TextSyntax, LocalSyntax, PairSyntax, UnarySyntax, BinarySyntax, CallSyntax, ConstructorSyntax, LetSyntax, IfSyntax, MatchSyntax}
-use Rattle.auth_syntax.specs.Trees.{ArmSyntax, expression_of, arm_of, arm_from_parts, expression_from_parts, arms_in_a_row, name_of, names_of, unary_of}
+use Rattle.auth_syntax.specs.Syntax.{UnitSyntax, BoolSyntax, IntSyntax, TextSyntax, LocalSyntax, PairSyntax, UnarySyntax, BinarySyntax, CallSyntax, ConstructorSyntax, OperateSyntax, LetSyntax, IfSyntax, MatchSyntax}
+use Rattle.auth_syntax.specs.Trees.{ArmSyntax, expression_of, arm_of, arm_from_parts, expression_from_parts, arms_in_a_row, array_of, name_of, names_of, unary_of}
 use Rattle.lexemes.specs.declared.place.Place.{Place}
 use Rattle.auth_syntax.specs.declared.tree.PlacedName.{PlacedName}
 use Rattle.auth_syntax.specs.declared.tree.UnaryOperator.{UnaryOperator}
+use Rattle.auth_syntax.specs.declared.tree.ArrayOperator.{ArrayOperator}
 use Rattle.core_terms.specs.declared.term.BinaryOperator.{BinaryOperator}
 use Rattle.auth_syntax.specs.declared.tree.Arm.{Arm, out-Arm}
 use Rattle.auth_syntax.specs.declared.tree.ExpTree.{ExpTree}
 use Rattle.auth_syntax.specs.declared.tree.ExpTree as tree
-use Rattle.auth_syntax.specs.declared.tree.ExpTree.TheVariants.{rolls-UnitLiteral, rolls-BoolLiteral, rolls-IntLiteral, rolls-TextLiteral, rolls-Local, rolls-Pair, rolls-Unary, rolls-Binary, rolls-Call, rolls-Constructor, rolls-Let, rolls-If, rolls-Match}
+use Rattle.auth_syntax.specs.declared.tree.ExpTree.TheVariants.{rolls-UnitLiteral, rolls-BoolLiteral, rolls-IntLiteral, rolls-TextLiteral, rolls-Local, rolls-Pair, rolls-Unary, rolls-Binary, rolls-Call, rolls-Constructor, rolls-Operate, rolls-Let, rolls-If, rolls-Match}
 use Rattle.auth_syntax.specs.declared.tree.ExpTree.TheFolds.{fold-roll-ExpTree, fold_out-Arm}
 use Rattle.auth_syntax.specs.Syntax.{ExpSyntax}
 
@@ -53,6 +54,10 @@ expression-Call at name operands = ap expression_of (sym (rolls-Call at name ope
 pub expression-Constructor : (at : Place) (name : Name) (operands : Vec ExpTree Global)
     → expression_of (tree.Constructor at name operands) ≡ ConstructorSyntax at name (in_a_row (map expression_of operands.items))
 expression-Constructor at name operands = ap expression_of (sym (rolls-Constructor at name operands)) ∙ fold-roll-ExpTree _ _ _ _ _
+
+pub expression-Operate : (at : Place) (operation : ArrayOperator) (operands : Vec ExpTree Global)
+    → expression_of (tree.Operate at operation operands) ≡ OperateSyntax at (array_of operation) (in_a_row (map expression_of operands.items))
+expression-Operate at operation operands = ap expression_of (sym (rolls-Operate at operation operands)) ∙ fold-roll-ExpTree _ _ _ _ _
 
 pub expression-Let : (at : Place) (name : PlacedName) (bound body : Box ExpTree Global)
     → expression_of (tree.Let at name bound body) ≡ LetSyntax at (name_of name) (expression_of bound.value) (expression_of body.value)

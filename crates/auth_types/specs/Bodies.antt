@@ -3,18 +3,20 @@
 use Rattle.std.specs.Prelude.{ℕ, suc, ◌+◌, Bool, true, false, List, [], ◌∷◌, ◌++◌, length, map, Option, Some, None, slice_get, slice_index_or, unwrap_or, nat_eq, nat_lt, bytes_eq, if◌then◌else◌}
 use Rattle.core_terms.specs.declared.term.BinaryOperator.TheVariants.{Arith, Compare, TextCompare, Cat}
 use Rattle.core_terms.specs.declared.term.BinaryOperator.{BinaryOperator}
-use Rattle.core_terms.specs.Types.{Ty, UnitTy, BoolTy, IntTy, TextTy, PairTy, NamedTy, AuthTy, Table, fields_at}
-use Rattle.core_terms.specs.Terms.{Expression, UnitE, BoolE, IntE, TextE, LocalE, PairE, FstE, SndE, NotE, LenE, AuthE, UnauthE, ConE, ArithE, CompareE, TextCompareE, CatE, LetE, IfE, MatchE, CallE, Expressions, NoE, AndE, Arms, NoArm, AndArm}
+use Rattle.core_terms.specs.declared.format.Format.{Format}
+use Rattle.core_terms.specs.Types.{Ty, UnitTy, BoolTy, IntTy, TextTy, PairTy, NamedTy, AuthTy, VecTy, Table, fields_at}
+use Rattle.core_terms.specs.Terms.{Expression, UnitE, BoolE, IntE, TextE, LocalE, PairE, FstE, SndE, NotE, LenE, AuthE, UnauthE, ConE, ArithE, CompareE, TextCompareE, CatE, LetE, IfE, MatchE, CallE, OperateE, Operation, VecFill, VecGet, VecPut, Expressions, NoE, AndE, Arms, NoArm, AndArm}
 use Rattle.core_terms.specs.Terms as tree
 pub use Rattle.core_terms.specs.ProgramLimits.{most_locals}
 use Rattle.core_terms.specs.Typing.{same_type}
 use Rattle.lexemes.specs.declared.place.Place.{Place}
-use Rattle.auth_syntax.specs.Syntax.{NameSyntax, ExpSyntax, UnitSyntax, BoolSyntax, IntSyntax, TextSyntax, LocalSyntax, PairSyntax, UnarySyntax, BinarySyntax, CallSyntax, ConstructorSyntax, LetSyntax, IfSyntax, MatchSyntax, ExpsSyntax, NoExp, AndExp, ArmsSyntax, NoArmSyntax, AndArmSyntax, UnaryOperation, FstOperation, SndOperation, AuthOperation, UnauthOperation, LenOperation, NotOperation, FunctionSyntax, ParameterSyntax, place_of}
+use Rattle.auth_syntax.specs.Grammar.{others_of}
+use Rattle.auth_syntax.specs.Syntax.{NameSyntax, ExpSyntax, UnitSyntax, BoolSyntax, IntSyntax, TextSyntax, LocalSyntax, PairSyntax, UnarySyntax, BinarySyntax, CallSyntax, ConstructorSyntax, OperateSyntax, LetSyntax, IfSyntax, MatchSyntax, ExpsSyntax, NoExp, AndExp, ArmsSyntax, NoArmSyntax, AndArmSyntax, UnaryOperation, FstOperation, SndOperation, AuthOperation, UnauthOperation, LenOperation, NotOperation, ArrayOperation, FillOperation, GetOperation, PutOperation, FunctionSyntax, ParameterSyntax, place_of}
 use Rattle.declared_types.specs.Checking.{Checking, Sound, FaultAt, then_checked, unless_fault, is_among}
-use Rattle.declared_types.specs.WrittenTypes.{type_meant}
+use Rattle.declared_types.specs.WrittenTypes.{may_have, type_meant}
 use Rattle.declared_types.specs.Signatures.{Numbered, Scope, Signature, constructor_named, function_named}
 use Rattle.declared_types.specs.RoleRules.{kind_meant}
-use Rattle.declared_types.specs.declared.fault.TypeKind.TheVariants.{Twice, UnknownName, WrongType, NotPair, NotAuth, NotSum, ArmsWrong, WrongCount, Limit}
+use Rattle.declared_types.specs.declared.fault.TypeKind.TheVariants.{Twice, UnknownName, WrongType, NotPair, NotAuth, NotVec, NotSum, ArmsWrong, WrongCount, Limit}
 use Rattle.declared_types.specs.declared.fault.Limited.TheVariants.{Locals}
 
 -- a local where it may be named; a local's number is its place in the list
@@ -147,6 +149,44 @@ constructed at count table (Some c) fields =
     unless_fault (nat_eq count (length types)) WrongCount at
     (then_checked (fields types) (λ es. typed (ConE c.number c.value es) (NamedTy c.number)))
 
+-- an operation on arrays, with the types of its operands behind the first
+pub record Taken : Type 0 where
+  pub operation : Operation
+  pub others : List Ty
+
+abbrev pub taken : Operation → List Ty → Checking Taken
+taken operation others = Sound (record { operation = operation; others = others })
+
+-- the program may have the array that a fill makes
+abbrev pub may_begin : Format → ArrayOperation → Bool
+may_begin format (FillOperation n) = may_have format n
+may_begin format operation = true
+
+-- what is made of an array that the program may have, which stands at this place
+abbrev pub array_at : Format → Place → Ty → (ℕ → Ty → Checking Taken) → Checking Taken
+array_at format at (VecTy n t) make = unless_fault (may_have format n) NotVec at (make n t)
+array_at format at t make = FaultAt NotVec at
+
+-- the operation, by the type of its first operand, which stands at this place
+abbrev pub taken_by : Format → ArrayOperation → Place → Ty → Checking Taken
+taken_by format (FillOperation n) at t = taken (VecFill n t) []
+taken_by format GetOperation at t = array_at format at t (λ n item. taken (VecGet n item) (IntTy ∷ []))
+taken_by format PutOperation at t = array_at format at t (λ n item. taken (VecPut n item) (IntTy ∷ item ∷ []))
+
+-- behind the first operand, which stands at this place: the others, and the whole
+abbrev pub operated_on : Format → ArrayOperation → Place → (List Ty → Checking Expressions) → Typed → Checking Typed
+operated_on format operation at others x =
+    then_checked (taken_by format operation at x.of_type) (λ taken.
+    then_checked (others taken.others) (λ xs.
+    typed (OperateE taken.operation (AndE x.expression xs)) (tree.result_type taken.operation)))
+
+-- an operation on arrays at this place, with so many operands behind the first, which stands at that one
+abbrev pub operated : Format → Place → ArrayOperation → ℕ → Place → Checking Typed → (List Ty → Checking Expressions) → Checking Typed
+operated format at operation count place first others =
+    unless_fault (nat_eq count (others_of operation)) WrongCount at
+    (unless_fault (may_begin format operation) NotVec at
+    (then_checked first (operated_on format operation place others)))
+
 -- what is matched, by its type: a named type whose constructors are those of the arms, in order
 abbrev pub matched : Scope → Place → Place → Expression → Ty → List (List ℕ) → (List (List Ty) → Checking TypedArms) → Checking Typed
 matched scope at subject e (NamedTy number) names arms =
@@ -171,6 +211,9 @@ module _ (scope : Scope) where
         called at (count_of operands) (function_named 0 scope.functions name) (elaborated_each locals operands)
     elaborated locals (ConstructorSyntax at name operands) =
         constructed at (count_of operands) scope.table (constructor_named 0 scope.constructors name) (elaborated_each locals operands)
+    elaborated locals (OperateSyntax at operation NoExp) = FaultAt WrongCount at
+    elaborated locals (OperateSyntax at operation (AndExp first rest)) =
+        operated scope.format at operation (count_of rest) (place_of first) (elaborated locals first) (elaborated_each locals rest)
     elaborated locals (LetSyntax at name bound body) =
         then_checked (elaborated locals bound) (λ e.
         unless_fault (nat_lt (length locals) most_locals) (Limit Locals) name.at
@@ -203,19 +246,19 @@ module _ (scope : Scope) where
     elaborated_arms locals arms want others = Sound (record { arms = NoArm; of_type = unwrap_or want UnitTy })
 
 -- the parameters of a function, as its first locals
-abbrev pub parameter_locals : List (List ℕ) → List ParameterSyntax → List Local
-parameter_locals names parameters = map (λ p. record { name = p.name.name; of_type = type_meant names p.of_type }) parameters
+abbrev pub parameter_locals : Format → List (List ℕ) → List ParameterSyntax → List Local
+parameter_locals format names parameters = map (λ p. record { name = p.name.name; of_type = type_meant format names p.of_type }) parameters
 
 -- a function, whose body has the type of its result
 abbrev pub checked_function : List (List ℕ) → Scope → FunctionSyntax → Checking tree.Function
 checked_function names scope function =
-    then_checked (wanted (place_of function.body) (type_meant names function.result_type)
-    (elaborated scope (parameter_locals names function.parameters) function.body)) (λ body.
+    then_checked (wanted (place_of function.body) (type_meant scope.format names function.result_type)
+    (elaborated scope (parameter_locals scope.format names function.parameters) function.body)) (λ body.
     Sound (record {
       name = function.name.name;
       kind = kind_meant function.kind;
-      parameters = map (λ p. type_meant names p.of_type) function.parameters;
-      result = type_meant names function.result_type;
+      parameters = map (λ p. type_meant scope.format names p.of_type) function.parameters;
+      result = type_meant scope.format names function.result_type;
       body = body;
     }))
 

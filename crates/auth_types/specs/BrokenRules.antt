@@ -1,17 +1,18 @@
 -- Which rule an expression breaks first, and at which place: what is judged before has its type, and at that place the rule is broken.
-use Rattle.std.specs.Prelude.{◌≡◌, ℕ, ◌≤◌, ◌<◌, ◌+◌, List, [], ◌∷◌, length, map, Option, Some, None}
+use Rattle.std.specs.Prelude.{◌≡◌, ℕ, suc, ◌≤◌, ◌<◌, ◌+◌, true, List, [], ◌∷◌, length, map, Option, Some, None}
 use Rattle.std.specs.List.{Contains}
 use Rattle.core_terms.specs.declared.term.BinaryOperator.{BinaryOperator}
 use Rattle.core_terms.specs.Types.{Ty, BoolTy, TextTy, PairTy, NamedTy, AuthTy}
-use Rattle.core_terms.specs.Terms.{Expression}
+use Rattle.core_terms.specs.Terms.{Expression, Operation}
 use Rattle.lexemes.specs.declared.place.Place.{Place}
-use Rattle.auth_syntax.specs.Syntax.{NameSyntax, ExpSyntax, LocalSyntax, PairSyntax, UnarySyntax, BinarySyntax, CallSyntax, ConstructorSyntax, LetSyntax, IfSyntax, MatchSyntax, ExpsSyntax, AndExp, ArmsSyntax, AndArmSyntax, UnaryOperation, FstOperation, SndOperation, UnauthOperation, LenOperation, NotOperation, place_of}
-use Rattle.auth_types.specs.Bodies.{Local, arm_names, count_of, most_locals}
+use Rattle.auth_syntax.specs.Grammar.{others_of}
+use Rattle.auth_syntax.specs.Syntax.{NameSyntax, ExpSyntax, LocalSyntax, PairSyntax, UnarySyntax, BinarySyntax, CallSyntax, ConstructorSyntax, OperateSyntax, LetSyntax, IfSyntax, MatchSyntax, ExpsSyntax, AndExp, ArmsSyntax, AndArmSyntax, UnaryOperation, FstOperation, SndOperation, UnauthOperation, LenOperation, NotOperation, ArrayOperation, place_of}
+use Rattle.auth_types.specs.Bodies.{Local, arm_names, count_of, may_begin, most_locals}
 use Rattle.declared_types.specs.Signatures.{Scope, Signature}
 use Rattle.auth_types.specs.InOrder.{NoneFits, OneBreaks}
-use Rattle.auth_types.specs.TypingRules.{Operates, NamesFunction, NamesConstructor, constructor_names, constructor_fields, field_types, with_local, with_fields, MayBind, MayBindAll, Elaborates}
+use Rattle.auth_types.specs.TypingRules.{Operates, TakesFirst, NamesFunction, NamesConstructor, constructor_names, constructor_fields, field_types, with_local, with_fields, MayBind, MayBindAll, Elaborates}
 use Rattle.declared_types.specs.declared.fault.TypeKind.{TypeKind}
-use Rattle.declared_types.specs.declared.fault.TypeKind.TheVariants.{Twice, UnknownName, WrongType, NotPair, NotAuth, NotSum, ArmsWrong, WrongCount, Limit}
+use Rattle.declared_types.specs.declared.fault.TypeKind.TheVariants.{Twice, UnknownName, WrongType, NotPair, NotAuth, NotVec, NotSum, ArmsWrong, WrongCount, Limit}
 use Rattle.declared_types.specs.declared.fault.Limited.TheVariants.{Locals}
 
 -- the type is no pair, no authenticated one, no named one
@@ -89,6 +90,24 @@ mutual
     InFields : {locals : List Local} {at : Place} {name : List ℕ} {operands : ExpsSyntax} {number tag : ℕ} {kind : TypeKind} {place : Place}
         → NamesConstructor scope name number tag → count_of operands ≡ length (field_types scope number tag)
         → OneMisfits scope locals (field_types scope number tag) operands kind place → Breaks scope locals (ConstructorSyntax at name operands) kind place
+    -- an operation on arrays has another number of operands, as no text has it
+    OtherOperands : {locals : List Local} {at : Place} {operation : ArrayOperation} {operands : ExpsSyntax}
+        → (count_of operands ≡ suc (others_of operation) → ⊥) → Breaks scope locals (OperateSyntax at operation operands) WrongCount at
+    -- the program may not have the array that a fill makes, which no text has either; the first operand is no array that it may have
+    FillsNoVec : {locals : List Local} {at : Place} {operation : ArrayOperation} {operands : ExpsSyntax}
+        → count_of operands ≡ suc (others_of operation) → (may_begin scope.format operation ≡ true → ⊥)
+        → Breaks scope locals (OperateSyntax at operation operands) NotVec at
+    InFirstOperand : {locals : List Local} {at : Place} {operation : ArrayOperation} {first : ExpSyntax} {rest : ExpsSyntax} {kind : TypeKind} {place : Place}
+        → count_of rest ≡ others_of operation → may_begin scope.format operation ≡ true → Breaks scope locals first kind place
+        → Breaks scope locals (OperateSyntax at operation (AndExp first rest)) kind place
+    OperatesOnNoVec : {locals : List Local} {at : Place} {operation : ArrayOperation} {first : ExpSyntax} {rest : ExpsSyntax} {x : Expression} {t : Ty}
+        → count_of rest ≡ others_of operation → may_begin scope.format operation ≡ true → Elaborates scope locals first x t
+        → ((op : Operation) (ts : List Ty) → TakesFirst scope.format operation t op ts → ⊥)
+        → Breaks scope locals (OperateSyntax at operation (AndExp first rest)) NotVec (place_of first)
+    InOthers : {locals : List Local} {at : Place} {operation : ArrayOperation} {first : ExpSyntax} {rest : ExpsSyntax} {x : Expression} {t : Ty}
+        {op : Operation} {ts : List Ty} {kind : TypeKind} {place : Place}
+        → count_of rest ≡ others_of operation → Elaborates scope locals first x t → TakesFirst scope.format operation t op ts
+        → OneMisfits scope locals ts rest kind place → Breaks scope locals (OperateSyntax at operation (AndExp first rest)) kind place
     -- as many locals as there may be stand before the one that is bound
     InBound : {locals : List Local} {at : Place} {name : NameSyntax} {bound body : ExpSyntax} {kind : TypeKind} {place : Place}
         → Breaks scope locals bound kind place → Breaks scope locals (LetSyntax at name bound body) kind place

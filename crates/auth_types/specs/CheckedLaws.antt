@@ -1,12 +1,12 @@
 -- The laws of the passes: what a reader may hold a program that passes them to.
 use Rattle.std.specs.Prelude.{◌≡◌, ◌≤◌, ◌<◌, ℕ, true, List, length, map, Some, slice_get, All, IsUtf8}
-use Rattle.core_terms.specs.Types.{Ty, PairTy, NamedTy, AuthTy}
+use Rattle.core_terms.specs.Types.{Ty, PairTy, NamedTy, AuthTy, VecTy}
 use Rattle.core_terms.specs.Terms.{Function, HasType}
 use Rattle.core_terms.specs.Terms as tree
 use Rattle.core_terms.specs.ProgramLimits as programs
 use Rattle.core_terms.specs.Typing.{is_typed, is_shaped}
 use Rattle.core_terms.specs.Values.{int_fits}
-use Rattle.auth_syntax.specs.Syntax.{ExpSyntax, IntSyntax, TextSyntax, PairSyntax, UnarySyntax, BinarySyntax, CallSyntax, ConstructorSyntax, LetSyntax, IfSyntax, MatchSyntax, ExpsSyntax, NoExp, AndExp, ArmsSyntax, NoArmSyntax, AndArmSyntax, Program}
+use Rattle.auth_syntax.specs.Syntax.{ExpSyntax, IntSyntax, TextSyntax, PairSyntax, UnarySyntax, BinarySyntax, CallSyntax, ConstructorSyntax, OperateSyntax, LetSyntax, IfSyntax, MatchSyntax, ExpsSyntax, NoExp, AndExp, ArmsSyntax, NoArmSyntax, AndArmSyntax, Program}
 use Rattle.auth_syntax.specs.TreeLimits as trees
 use Rattle.auth_syntax.specs.Parsing.{parsed, Tree}
 use Rattle.declared_types.specs.Checking.{Sound}
@@ -27,6 +27,7 @@ abbrev mutual
   HasGoodLiterals (BinarySyntax at operation first second) = HasGoodLiterals first × HasGoodLiterals second
   HasGoodLiterals (CallSyntax at name operands) = HaveGoodLiterals operands
   HasGoodLiterals (ConstructorSyntax at name operands) = HaveGoodLiterals operands
+  HasGoodLiterals (OperateSyntax at operation operands) = HaveGoodLiterals operands
   HasGoodLiterals (LetSyntax at name bound body) = HasGoodLiterals bound × HasGoodLiterals body
   HasGoodLiterals (IfSyntax at test first other) = HasGoodLiterals test × HasGoodLiterals first × HasGoodLiterals other
   HasGoodLiterals (MatchSyntax at subject arms) = HasGoodLiterals subject × ArmsHaveGoodLiterals arms
@@ -87,6 +88,7 @@ abbrev pub NamesTypesBelow : ℕ → Ty → Type 0
 NamesTypesBelow count (PairTy a b) = NamesTypesBelow count a × NamesTypesBelow count b
 NamesTypesBelow count (NamedTy number) = number < count
 NamesTypesBelow count (AuthTy t) = NamesTypesBelow count t
+NamesTypesBelow count (VecTy n t) = NamesTypesBelow count t
 NamesTypesBelow count t = Unit {0}
 
 -- each type that a function names is one of so many

@@ -1,21 +1,25 @@
 -- The four passes of the checker, on a syntax tree: the program that it gives, or the first fault of the first pass that has one.
 use Rattle.std.specs.Prelude.{ℕ, List}
 use Rattle.core_terms.specs.Terms as tree
-use Rattle.core_terms.specs.Formats.{Format, first_format}
-use Rattle.core_terms.specs.ProgramFormats.{most_kept_pieces}
+use Rattle.core_terms.specs.Formats.{Format}
+use Rattle.core_terms.specs.ProgramFormats.{format_with}
+use Rattle.core_terms.specs.TypeDeclarations.{types_text}
 use Rattle.auth_syntax.specs.Syntax as syntax
 use Rattle.declared_types.specs.Checking.{Checking, Sound, FaultAt, then_checked}
 use Rattle.declared_types.specs.Declarations.{first_pass}
 use Rattle.declared_types.specs.WrittenTypes.{second_pass, functions_in}
-pub use Rattle.declared_types.specs.DeclaredPrograms.{constructors_in, names_of, scope_of, state_of, table_of_program, third_pass}
+pub use Rattle.declared_types.specs.DeclaredPrograms.{constructors_in, format_of, names_of, scope_of, state_of, table_of_program, third_pass}
 use Rattle.auth_types.specs.Bodies.{checked_functions}
 use Rattle.declared_types.specs.declared.fault.TypeKind.{TypeKind}
 
--- The format of every program that is written: none says another one.
-abbrev pub program_format : Format
-program_format = first_format most_kept_pieces
-
 module _ (program : syntax.Program) where
+  -- the type declarations, printed, and what the format of a program with these fixes
+  abbrev pub declared_text_of : List ℕ
+  declared_text_of = types_text (names_of program) (constructors_in program.declarations) (table_of_program program)
+
+  abbrev pub program_format : Format
+  program_format = format_with (format_of program) declared_text_of
+
   -- the fourth pass, which gives the functions
   abbrev pub fourth_pass : Checking (List tree.Function)
   fourth_pass = checked_functions (names_of program) (scope_of program) (functions_in program.declarations)

@@ -1,16 +1,17 @@
--- The rules of declarations, each by itself: names are new in their space and nothing goes beyond its limit, names of types are declared, and
--- roles have their shapes. What breaks such a rule, and at which place.
-use Rattle.std.specs.Prelude.{◌≡◌, ℕ, ◌<◌, ◌≤◌, List, [], ◌∷◌, ◌++◌, length, map}
+-- The rules of declarations, each by itself: names are new in their space and nothing goes beyond its limit, and what is written in types is
+-- declared or may be had. What breaks such a rule, and at which place.
+use Rattle.std.specs.Prelude.{◌≡◌, ℕ, ◌<◌, ◌≤◌, true, List, [], ◌∷◌, ◌++◌, length, map}
 use Rattle.std.specs.List.{Contains}
+use Rattle.core_terms.specs.declared.format.Format.{Format}
 use Rattle.lexemes.specs.declared.place.Place.{Place}
-use Rattle.auth_syntax.specs.Syntax.{NameSyntax, TypeSyntax, NamedTypeSyntax, AuthTypeSyntax, PairTypeSyntax, place_of_type, ParameterSyntax, FunctionSyntax, ConstructorDeclaration, DeclarationSyntax, TypeDeclaration, StateDeclaration, FunctionDeclaration, Program}
+use Rattle.auth_syntax.specs.Syntax.{NameSyntax, TypeSyntax, NamedTypeSyntax, AuthTypeSyntax, PairTypeSyntax, VecTypeSyntax, place_of_type, ParameterSyntax, FunctionSyntax, ConstructorDeclaration, DeclarationSyntax, TypeDeclaration, StateDeclaration, FunctionDeclaration, Program}
 use Rattle.declared_types.specs.Declarations.{most_types, most_constructors, most_fields, most_functions, most_parameters}
-use Rattle.declared_types.specs.WrittenTypes.{type_names, functions_in, states_in}
-use Rattle.declared_types.specs.DeclaredPrograms.{constructors_in}
+use Rattle.declared_types.specs.WrittenTypes.{may_have, type_names, functions_in, states_in}
+use Rattle.declared_types.specs.DeclaredPrograms.{constructors_in, format_of}
 use Rattle.declared_types.specs.ScopeNames.{joined}
 use Rattle.auth_types.specs.InOrder.{EachMeets, OneBreaks}
 use Rattle.declared_types.specs.declared.fault.TypeKind.{TypeKind}
-use Rattle.declared_types.specs.declared.fault.TypeKind.TheVariants.{Twice, Limit, NoState, UnknownName}
+use Rattle.declared_types.specs.declared.fault.TypeKind.TheVariants.{Twice, Limit, NoState, NotVec, UnknownName}
 use Rattle.declared_types.specs.declared.fault.Limited.{Limited}
 use Rattle.declared_types.specs.declared.fault.Limited.TheVariants.{Types, Constructors, Fields, Functions, Parameters}
 
@@ -100,40 +101,51 @@ pub data BreaksDeclared (program : Program) : TypeKind → Place → Type 0 wher
   InDeclarations : {kind : TypeKind} {at : Place} → OneBreaks MayDeclare BreaksDeclaration [] program.declarations kind at → BreaksDeclared program kind at
   HasNoState : EachMeets MayDeclare [] program.declarations → states_in program.declarations ≡ [] → BreaksDeclared program NoState program.end
 
--- The names of types that are written in a type, in the types of a constructor's fields, and in declarations, from left to right.
-abbrev pub names_in_type : TypeSyntax → List NameSyntax
-names_in_type (NamedTypeSyntax at name) = record { at = at; name = name } ∷ []
-names_in_type (AuthTypeSyntax at inner) = names_in_type inner
-names_in_type (PairTypeSyntax at first second) = names_in_type first ++ names_in_type second
-names_in_type t = []
+-- What a written type needs of its program: a named type that is declared, and an array that the program may have.
+pub data Need : Type 0 where
+  NeedsType : (name : NameSyntax) → Need
+  NeedsArray : (at : Place) (n : ℕ) → Need
 
-abbrev pub names_in_types : List TypeSyntax → List NameSyntax
-names_in_types [] = []
-names_in_types (t ∷ ts) = names_in_type t ++ names_in_types ts
+-- what is needed in a type, in the types of a constructor's fields, and in declarations, from left to right
+abbrev pub needs_of_type : TypeSyntax → List Need
+needs_of_type (NamedTypeSyntax at name) = NeedsType (record { at = at; name = name }) ∷ []
+needs_of_type (AuthTypeSyntax at inner) = needs_of_type inner
+needs_of_type (PairTypeSyntax at first second) = needs_of_type first ++ needs_of_type second
+needs_of_type (VecTypeSyntax at n item) = NeedsArray at n ∷ needs_of_type item
+needs_of_type t = []
 
-abbrev pub names_in_constructors : List ConstructorDeclaration → List NameSyntax
-names_in_constructors [] = []
-names_in_constructors (constructor ∷ rest) = names_in_types constructor.fields ++ names_in_constructors rest
+abbrev pub needs_of_types : List TypeSyntax → List Need
+needs_of_types [] = []
+needs_of_types (t ∷ ts) = needs_of_type t ++ needs_of_types ts
 
-abbrev pub names_in_declaration : DeclarationSyntax → List NameSyntax
-names_in_declaration (TypeDeclaration at name constructors) = names_in_constructors constructors
-names_in_declaration (StateDeclaration at of_type) = names_in_type of_type
-names_in_declaration (FunctionDeclaration at function) = names_in_types (map (λ (p : ParameterSyntax). p.of_type) function.parameters) ++ names_in_type function.result_type
+abbrev pub needs_of_constructors : List ConstructorDeclaration → List Need
+needs_of_constructors [] = []
+needs_of_constructors (constructor ∷ rest) = needs_of_types constructor.fields ++ needs_of_constructors rest
 
-abbrev pub names_in_declarations : List DeclarationSyntax → List NameSyntax
-names_in_declarations [] = []
-names_in_declarations (declaration ∷ rest) = names_in_declaration declaration ++ names_in_declarations rest
+abbrev pub needs_of_declaration : DeclarationSyntax → List Need
+needs_of_declaration (TypeDeclaration at name constructors) = needs_of_constructors constructors
+needs_of_declaration (StateDeclaration at of_type) = needs_of_type of_type
+needs_of_declaration (FunctionDeclaration at function) = needs_of_types (map (λ (p : ParameterSyntax). p.of_type) function.parameters) ++ needs_of_type function.result_type
 
--- each of them is that of a type that is declared, anywhere in the program; else the first that isn't is unknown
-abbrev pub IsKnown : List (List ℕ) → List NameSyntax → NameSyntax → Type 0
-IsKnown declared before name = Contains declared name.name
+abbrev pub needs_of_declarations : List DeclarationSyntax → List Need
+needs_of_declarations [] = []
+needs_of_declarations (declaration ∷ rest) = needs_of_declaration declaration ++ needs_of_declarations rest
 
-pub data BreaksKnown (declared : List (List ℕ)) : List NameSyntax → NameSyntax → TypeKind → Place → Type 0 where
-  UnknownType : {before : List NameSyntax} {name : NameSyntax} → (Contains declared name.name → ⊥) → BreaksKnown declared before name UnknownName name.at
+-- each of them is met, by the types that are declared anywhere in the program and by its format; else the first that isn't is told
+abbrev pub IsMet : Format → List (List ℕ) → List Need → Need → Type 0
+IsMet format declared before (NeedsType name) = Contains declared name.name
+IsMet format declared before (NeedsArray at n) = may_have format n ≡ true
+
+pub data BreaksNeed (format : Format) (declared : List (List ℕ)) : List Need → Need → TypeKind → Place → Type 0 where
+  UnknownType : {before : List Need} {name : NameSyntax} → (Contains declared name.name → ⊥)
+      → BreaksNeed format declared before (NeedsType name) UnknownName name.at
+  WritesNoVec : {before : List Need} {at : Place} {n : ℕ} → (may_have format n ≡ true → ⊥)
+      → BreaksNeed format declared before (NeedsArray at n) NotVec at
 
 abbrev pub AreKnown : Program → Type 0
-AreKnown program = EachMeets (IsKnown (type_names program.declarations)) [] (names_in_declarations program.declarations)
+AreKnown program = EachMeets (IsMet (format_of program) (type_names program.declarations)) [] (needs_of_declarations program.declarations)
 
 abbrev pub BreaksTypeNames : Program → TypeKind → Place → Type 0
 BreaksTypeNames program kind at =
-    OneBreaks (IsKnown (type_names program.declarations)) (BreaksKnown (type_names program.declarations)) [] (names_in_declarations program.declarations) kind at
+    OneBreaks (IsMet (format_of program) (type_names program.declarations)) (BreaksNeed (format_of program) (type_names program.declarations)) []
+    (needs_of_declarations program.declarations) kind at

@@ -36,7 +36,7 @@ abbrev pub types_of : Elaborator → List Ty
 types_of e = types_in e.types
 
 unfoldable pub scope_of : Elaborator → Scope
-scope_of e = scope_meant (types_in e.types) e.scope.now
+scope_of e = scope_meant e.types.format (types_in e.types) e.scope.now
 
 unfoldable pub locals_of : Elaborator → List Local
 locals_of e = locals_meant (types_in e.types) e.locals.items

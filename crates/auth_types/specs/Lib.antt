@@ -15,6 +15,7 @@ pub mod Locals
 pub mod Elaborators
 pub mod Joins
 pub mod Applications
+pub mod Arrays
 pub mod Leaves
 pub mod Parts
 pub mod InOrder

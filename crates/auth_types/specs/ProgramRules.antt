@@ -8,7 +8,7 @@ use Rattle.auth_syntax.specs.Syntax.{ParameterSyntax, FunctionSyntax, Program}
 use Rattle.auth_types.specs.CheckedPrograms.{program_format}
 use Rattle.auth_types.specs.Bodies.{parameter_locals}
 use Rattle.declared_types.specs.Signatures.{Scope}
-use Rattle.declared_types.specs.DeclaredPrograms.{names_of, scope_of, state_of, table_of_program}
+use Rattle.declared_types.specs.DeclaredPrograms.{format_of, names_of, scope_of, state_of, table_of_program}
 use Rattle.declared_types.specs.RoleRules.{kind_meant}
 use Rattle.declared_types.specs.WrittenTypes.{functions_in, type_meant}
 use Rattle.auth_types.specs.InOrder.{EachMeets, OneBreaks}
@@ -22,32 +22,32 @@ use Rattle.declared_types.specs.declared.fault.TypeKind.{TypeKind}
 pub record FunctionStandsFor (names : List (List ℕ)) (scope : Scope) (function : FunctionSyntax) (g : Function) : Type 0 where
   pub name : g.name ≡ function.name.name
   pub kind : g.kind ≡ kind_meant function.kind
-  pub parameters : g.parameters ≡ map (λ (p : ParameterSyntax). type_meant names p.of_type) function.parameters
-  pub result : g.result ≡ type_meant names function.result_type
-  pub body : Elaborates scope (parameter_locals names function.parameters) function.body g.body (type_meant names function.result_type)
+  pub parameters : g.parameters ≡ map (λ (p : ParameterSyntax). type_meant scope.format names p.of_type) function.parameters
+  pub result : g.result ≡ type_meant scope.format names function.result_type
+  pub body : Elaborates scope (parameter_locals scope.format names function.parameters) function.body g.body (type_meant scope.format names function.result_type)
 
 -- it stands for some, whatever stands before it; or its body breaks a rule or has another type
 abbrev pub HasBody : List (List ℕ) → Scope → List FunctionSyntax → FunctionSyntax → Type 0
 HasBody names scope before function = (g : Function) × FunctionStandsFor names scope function g
 
 abbrev pub BreaksBody : List (List ℕ) → Scope → List FunctionSyntax → FunctionSyntax → TypeKind → Place → Type 0
-BreaksBody names scope before function kind at = Misfits scope (parameter_locals names function.parameters) (type_meant names function.result_type) function.body kind at
+BreaksBody names scope before function kind at = Misfits scope (parameter_locals scope.format names function.parameters) (type_meant scope.format names function.result_type) function.body kind at
 
 module _ (program : Program) where
   -- the roles of the program
   abbrev pub AreRoles : Type 0
-  AreRoles = EachMeets (MeetsRole (names_of program) (table_of_program program) (state_of program)) [] (functions_in program.declarations)
+  AreRoles = EachMeets (MeetsRole (format_of program) (names_of program) (table_of_program program) (state_of program)) [] (functions_in program.declarations)
 
   abbrev pub BreaksRoles : TypeKind → Place → Type 0
   BreaksRoles kind at =
-      OneBreaks (MeetsRole (names_of program) (table_of_program program) (state_of program)) (BreaksRole (names_of program) (table_of_program program) (state_of program)) [] (functions_in program.declarations) kind at
+      OneBreaks (MeetsRole (format_of program) (names_of program) (table_of_program program) (state_of program)) (BreaksRole (format_of program) (names_of program) (table_of_program program) (state_of program)) [] (functions_in program.declarations) kind at
 
   -- its bodies
   abbrev pub BreaksBodies : TypeKind → Place → Type 0
   BreaksBodies kind at = OneBreaks (HasBody (names_of program) (scope_of program)) (BreaksBody (names_of program) (scope_of program)) [] (functions_in program.declarations) kind at
 
--- The tree stands for this program: its declarations may stand where they do, the types that are named are declared, its roles have their
--- shapes, and its functions stand for those of the program.
+-- The tree stands for this program: its declarations may stand where they do, the types that are named are declared and the arrays may be had,
+-- its roles have their shapes, and its functions stand for those of the program, which is of the format that the tree tells.
 pub record Denotes (program : Program) (P : tree.Program) : Type 0 where
   pub declared : AreDeclared program
   pub known : AreKnown program
@@ -55,7 +55,7 @@ pub record Denotes (program : Program) (P : tree.Program) : Type 0 where
   pub functions : AllZip (FunctionStandsFor (names_of program) (scope_of program)) (functions_in program.declarations) P.functions
   pub types : P.types ≡ table_of_program program
   pub state : P.state ≡ state_of program
-  pub format : P.format ≡ program_format
+  pub format : P.format ≡ program_format program
 
 -- The tree breaks this rule at this place, which is the first in its pass, and the passes before it find no fault.
 pub data BreaksProgram (program : Program) : TypeKind → Place → Type 0 where

@@ -1,17 +1,20 @@
 -- The typing rules of the language, one for each form of an expression: what an expression of the tree stands for, and its type.
-use Rattle.std.specs.Prelude.{◌≡◌, ℕ, ◌+◌, ◌<◌, ℤ, Bool, List, [], ◌∷◌, ◌++◌, length, map, slice_get, unwrap_or}
+use Rattle.std.specs.Prelude.{◌≡◌, ℕ, ◌+◌, ◌<◌, ℤ, Bool, true, List, [], ◌∷◌, ◌++◌, length, map, slice_get, unwrap_or}
 use Rattle.std.specs.List.{Contains}
 use Rattle.core_terms.specs.declared.term.Arith.{Arith as ArithOperator}
 use Rattle.core_terms.specs.declared.term.Compare.{Compare as CompareOperator}
 use Rattle.core_terms.specs.declared.term.TextCompare.{TextCompare as TextCompareOperator}
 use Rattle.core_terms.specs.declared.term.BinaryOperator.TheVariants.{Arith, Compare, TextCompare, Cat}
 use Rattle.core_terms.specs.declared.term.BinaryOperator.{BinaryOperator}
-use Rattle.core_terms.specs.Types.{Ty, UnitTy, BoolTy, IntTy, TextTy, PairTy, NamedTy, AuthTy, fields_at}
-use Rattle.core_terms.specs.Terms.{Expression, UnitE, BoolE, IntE, TextE, LocalE, PairE, FstE, SndE, NotE, LenE, AuthE, UnauthE, ConE, ArithE, CompareE, TextCompareE, CatE, LetE, IfE, MatchE, CallE, Expressions, NoE, AndE, Arms, NoArm, AndArm}
+use Rattle.core_terms.specs.declared.format.Format.{Format}
+use Rattle.core_terms.specs.Types.{Ty, UnitTy, BoolTy, IntTy, TextTy, PairTy, NamedTy, AuthTy, VecTy, fields_at}
+use Rattle.core_terms.specs.Terms.{Expression, UnitE, BoolE, IntE, TextE, LocalE, PairE, FstE, SndE, NotE, LenE, AuthE, UnauthE, ConE, ArithE, CompareE, TextCompareE, CatE, LetE, IfE, MatchE, CallE, OperateE, Operation, VecFill, VecGet, VecPut, Expressions, NoE, AndE, Arms, NoArm, AndArm}
+use Rattle.core_terms.specs.Terms as tree
 use Rattle.lexemes.specs.declared.place.Place.{Place}
-use Rattle.auth_syntax.specs.Syntax.{NameSyntax, ExpSyntax, UnitSyntax, BoolSyntax, IntSyntax, TextSyntax, LocalSyntax, PairSyntax, UnarySyntax, BinarySyntax, CallSyntax, ConstructorSyntax, LetSyntax, IfSyntax, MatchSyntax, ExpsSyntax, NoExp, AndExp, ArmsSyntax, NoArmSyntax, AndArmSyntax, FstOperation, SndOperation, AuthOperation, UnauthOperation, LenOperation, NotOperation}
+use Rattle.auth_syntax.specs.Syntax.{NameSyntax, ExpSyntax, UnitSyntax, BoolSyntax, IntSyntax, TextSyntax, LocalSyntax, PairSyntax, UnarySyntax, BinarySyntax, CallSyntax, ConstructorSyntax, OperateSyntax, LetSyntax, IfSyntax, MatchSyntax, ExpsSyntax, NoExp, AndExp, ArmsSyntax, NoArmSyntax, AndArmSyntax, FstOperation, SndOperation, AuthOperation, UnauthOperation, LenOperation, NotOperation, ArrayOperation, FillOperation, GetOperation, PutOperation}
 use Rattle.auth_types.specs.Bodies.{Local, arm_names, most_locals}
 use Rattle.declared_types.specs.Signatures.{Scope, Signature}
+use Rattle.declared_types.specs.WrittenTypes.{may_have}
 use Rattle.auth_types.specs.InOrder.{IsFirst, IsLast, EachMeets}
 
 -- The operations on two operands: the type of both operands, that of the result, and what is made of the two.
@@ -20,6 +23,12 @@ pub data Operates : BinaryOperator → (operand result : Ty) → (Expression →
   Compares : (operator : CompareOperator) → Operates (Compare operator) IntTy BoolTy (λ x y. CompareE operator x y)
   ComparesTexts : (operator : TextCompareOperator) → Operates (TextCompare operator) TextTy BoolTy (λ x y. TextCompareE operator x y)
   Joins : Operates Cat TextTy TextTy (λ x y. CatE x y)
+
+-- The operations on arrays that a program of the format may have: by the type of the first operand the operation, and the types of the others.
+pub data TakesFirst (format : Format) : ArrayOperation → (first : Ty) → Operation → (others : List Ty) → Type 0 where
+  Fills : {n : ℕ} {t : Ty} → may_have format n ≡ true → TakesFirst format (FillOperation n) t (VecFill n t) []
+  Gets : {n : ℕ} {t : Ty} → may_have format n ≡ true → TakesFirst format GetOperation (VecTy n t) (VecGet n t) (IntTy ∷ [])
+  Puts : {n : ℕ} {t : Ty} → may_have format n ≡ true → TakesFirst format PutOperation (VecTy n t) (VecPut n t) (IntTy ∷ t ∷ [])
 
 -- the local that a name names: the innermost, which is the last one
 abbrev pub NamesLocal : List Local → List ℕ → ℕ → Local → Type 0
@@ -101,6 +110,10 @@ mutual
     ConstructorRule : {locals : List Local} {at : Place} {name : List ℕ} {operands : ExpsSyntax} {xs : Expressions} {number tag : ℕ}
         → NamesConstructor scope name number tag → ElaborateEach scope locals operands xs (field_types scope number tag)
         → Elaborates scope locals (ConstructorSyntax at name operands) (ConE number tag xs) (NamedTy number)
+    OperateRule : {locals : List Local} {at : Place} {operation : ArrayOperation} {first : ExpSyntax} {rest : ExpsSyntax} {x : Expression} {xs : Expressions}
+        {t : Ty} {op : Operation} {ts : List Ty}
+        → Elaborates scope locals first x t → TakesFirst scope.format operation t op ts → ElaborateEach scope locals rest xs ts
+        → Elaborates scope locals (OperateSyntax at operation (AndExp first rest)) (OperateE op (AndE x xs)) (tree.result_type op)
     LetRule : {locals : List Local} {at : Place} {name : NameSyntax} {bound body : ExpSyntax} {x y : Expression} {a b : Ty}
         → Elaborates scope locals bound x a → length locals < most_locals → Elaborates scope (with_local locals name.name a) body y b
         → Elaborates scope locals (LetSyntax at name bound body) (LetE a x y) b

@@ -2,6 +2,7 @@
 //
 // An elaborator goes over an expression once, from the left, and compares a part's type as soon as it has the part.
 
+mod arrays;
 mod binders;
 mod calls;
 mod elaborator;
@@ -26,11 +27,12 @@ ghost use Rattle.auth_types.specs.Joins as joins;
 ghost use Rattle.declared_types.specs.OverTypes.{FindsOver};
 ghost use Rattle.declared_types.specs.Scopes.{AreWithin, IsConstructorWithin};
 
+use crate::bodies::arrays::operated_term;
 use crate::bodies::calls::{Space, applied_term};
 use crate::bodies::elaborator::Elaborator;
 use crate::bodies::joins::Join;
 use crate::bodies::parts::{Parts, parts_of};
-use auth_syntax::tree::{Arm, ExpTree};
+use auth_syntax::tree::{Arm, ArrayOperator, ExpTree};
 use core_terms::{Constructor, Name, Term, TyForm, TyId};
 use declared_types::fault::{TypeFault, TypeKind};
 pub(crate) use functions::{Bodies, fourth_pass};
@@ -65,6 +67,7 @@ fn place(tree: &ExpTree) -> Place
         | ExpTree::Binary(at, _, _, _)
         | ExpTree::Call(at, _, _)
         | ExpTree::Constructor(at, _, _)
+        | ExpTree::Operate(at, _, _)
         | ExpTree::Let { at, .. }
         | ExpTree::If { at, .. }
         | ExpTree::Match { at, .. } => *at,
@@ -88,6 +91,7 @@ impl<'s, 'a> Elaborator<'s, 'a> {
             }
             Parts::Two(join, first, second) => self.two(join, first, second),
             Parts::Row(space, at, name, operands) => self.applied(space, at, name, operands),
+            Parts::Array(at, operator, operands) => self.on_array(at, operator, operands),
             Parts::Branches(test, first, other) => self.condition(test, first, other),
             Parts::Arms(at, subject, arms) => self.match_with(at, subject, arms),
         }
@@ -143,6 +147,27 @@ impl<'s, 'a> Elaborator<'s, 'a> {
         let callee = self.named(space, at, name, operands.len())?;
         let terms = self.operands(operands, callee.types)?;
         self.typed(applied_term(callee.applied, terms), callee.ty)
+    }
+
+    /// An operation on arrays at this place, with its operands.
+    #[cycle(bodies)]
+    fn on_array(
+        &mut self,
+        at: Place,
+        operator: ArrayOperator,
+        operands: &'a [ExpTree],
+    ) -> Result<Typed, TypeFault>
+        ensures keeps { OnOk result (Keeps self.old self.new) }
+        ensures found { FindsOver (types_of self.new) typed_of (found_at self.old (syntax.OperateSyntax at (written.array_of operator) (in_a_row (map written.expression_of operands.now)))) result }
+        ensures inside { IfOk result (λ typed. typed.ty.0 < length (types_of self.new)) }
+        ensures literals { OnOk result (HaveGoodLiterals (in_a_row (map written.expression_of operands.now))) }
+    {
+        let parts = self.begun(at, operator, operands)?;
+        let first = self.term(parts.first)?;
+        let taken = self.taken(operator, place(parts.first), first.ty)?;
+        let others = self.operands(parts.others, &taken.others)?;
+        let term = operated_term(self.alloc, taken.operation, first.term, others)?;
+        self.typed(term, taken.ty)
     }
 
     /// Expressions in a row, of these types.

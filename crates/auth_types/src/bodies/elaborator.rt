@@ -1,10 +1,8 @@
 // What elaborates bodies: the types so far, what the program declares, and the locals at the place where it stands.
-ghost use Rattle.std.specs.Prelude.{◌≡◌, ◌<◌, ◌≤◌, ◌∷◌, ◌++◌, [], List, true, false, bytes_eq, drop, length, take, Some, nat_lt, slice_get, unwrap_or, IfOk, IfSome, OnOk};
+ghost use Rattle.std.specs.Prelude.{◌≡◌, ◌<◌, ◌∷◌, ◌++◌, [], List, true, bytes_eq, drop, length, take, Some, nat_lt, slice_get, unwrap_or, IfOk, IfSome, OnOk};
 ghost use Rattle.std.specs.List.{list_any};
-ghost use Rattle.core_terms.specs.ProgramFormats.{arrays_of};
 ghost use Rattle.core_terms.specs.Programs.{types_in};
 ghost use Rattle.core_terms.specs.Types.{Ty};
-ghost use Rattle.core_terms.specs.declared.format.Format.TheVariants.{First};
 ghost use Rattle.auth_types.specs.Bodies.{last_named};
 ghost use Rattle.auth_types.specs.Locals.{AreLocalsWithin, locals_meant};
 ghost use Rattle.declared_types.specs.Scopes.{IsWithin};
@@ -14,6 +12,7 @@ use auth_syntax::tree::PlacedName;
 use core_terms::{LocalId, Name, Term, Text, TyForm, TyId, TyTable};
 use declared_types::fault::{Limited, TypeFault, TypeKind};
 use declared_types::scope::Scope;
+use declared_types::written_types::may_have;
 use lexemes::place::Place;
 use std::alloc::{AllocError, Global};
 
@@ -51,7 +50,7 @@ fn has_name(locals: &[Local<'_>], outer: usize, name: &Name) -> bool
         .any(|local| local.name == name.as_bytes())
 }
 
-/// Elaborates bodies over the types so far, which are those of a program without arrays. Each number of a type that it holds is in the table.
+/// Elaborates bodies over the types so far. Each number of a type that it holds is in the table.
 #[derive(Drop)]
 pub(super) struct Elaborator<'s, 'a> {
     pub(super) alloc: Global,
@@ -60,14 +59,13 @@ pub(super) struct Elaborator<'s, 'a> {
     locals: Vec<Local<'a>>,
     ghost scope_within: { IsWithin (length (types_in types)) scope.now },
     ghost locals_within: { AreLocalsWithin (length (types_in types)) locals.items },
-    ghost plain: { arrays_of types.format ≡ false },
 }
 
 impl<'s, 'a> Elaborator<'s, 'a> {
     ghost use Rattle.core_terms.specs.ProgramTrees.{expression_of};
     ghost use Rattle.core_terms.specs.TypeTables.{is_form_in, stands_behind, type_of_form, type_at};
     ghost use Rattle.core_terms.specs.Texts.{bytes_of};
-    ghost use Rattle.core_terms.specs.Terms.{Expression, TextE};
+    ghost use Rattle.core_terms.specs.Terms.{TextE};
     ghost use Rattle.core_terms.specs.Types.{TextTy, UnitTy};
     ghost use Rattle.core_terms.specs.Typing.{same_type};
     ghost use Rattle.auth_syntax.specs.Syntax.{LocalSyntax};
@@ -76,18 +74,18 @@ impl<'s, 'a> Elaborator<'s, 'a> {
     ghost use Rattle.declared_types.specs.Checking.{Checking, Sound, is_among, unless_fault};
     ghost use Rattle.declared_types.specs.declared.fault.TypeKind.TheVariants.{Limit, WrongType};
     ghost use Rattle.declared_types.specs.declared.fault.Limited.TheVariants.{Locals};
-    ghost use Rattle.declared_types.specs.OverTypes.{FindsOver, Grows, Shows};
+    ghost use Rattle.declared_types.specs.OverTypes.{FindsOver, Shows};
     ghost use Rattle.declared_types.specs.Findings.{Finds};
     ghost use Rattle.declared_types.specs.Scopes.{scope_meant};
+    ghost use Rattle.declared_types.specs.WrittenTypes.{may_have};
     ghost use Rattle.auth_types.specs.Locals.{names_of};
     ghost use Rattle.auth_types.specs.Elaborators.{Keeps, ShowsTerm, boxed_of, found_at, locals_of, scope_of, typed_of, types_of, want_of};
 
     /// Before a body, with no locals.
     pub(super) fn new(alloc: Global, types: TyTable, scope: &'s Scope<'a>) -> Self
         requires within { IsWithin (length (types_in types)) scope.now }
-        requires plain { arrays_of types.format ≡ false }
         ensures types { types_of result ≡ types_in types }
-        ensures scope { scope_of result ≡ scope_meant (types_in types) scope.now }
+        ensures scope { scope_of result ≡ scope_meant types.format (types_in types) scope.now }
         ensures locals { locals_of result ≡ [] }
     {
         Elaborator {
@@ -101,7 +99,7 @@ impl<'s, 'a> Elaborator<'s, 'a> {
     /// The number of the type of this form.
     pub(super) fn intern(&mut self, form: TyForm) -> Result<TyId, AllocError>
         requires parts { stands_behind (length (types_of self.old)) form ≡ true }
-        requires format { is_form_in self.old.types.format form ≡ true }
+        requires format { is_form_in (scope_of self.old).format form ≡ true }
         ensures keeps { OnOk result (Keeps self.old self.new) }
         ensures number { IfOk result (λ id. slice_get (types_of self.new) id.0 ≡ Some (type_of_form (types_of self.old) form)) }
         ensures inside { IfOk result (λ id. id.0 < length (types_of self.new)) }
@@ -126,8 +124,16 @@ impl<'s, 'a> Elaborator<'s, 'a> {
     pub(super) fn form(&self, ty: TyId) -> TyForm
         ensures form { type_of_form (types_of self.now) result ≡ type_at (types_of self.now) ty }
         ensures parts { stands_behind ty.0 result ≡ true }
+        ensures format { is_form_in (scope_of self.now).format result ≡ true }
     {
         self.types.form(ty)
+    }
+
+    /// Whether the program may have arrays of so many elements.
+    pub(super) fn may_have(&self, count: u8) -> bool
+        ensures { result ≡ may_have (scope_of self.now).format count }
+    {
+        may_have(self.types.format(), count)
     }
 
     /// The term at this place, which has this type.
@@ -272,7 +278,7 @@ impl<'s, 'a> Elaborator<'s, 'a> {
     /// The table, where all bodies are elaborated.
     pub(super) fn into_types(self) -> TyTable
         ensures types { types_in result ≡ types_of self.entry }
-        ensures format { result.format ≡ First }
+        ensures format { result.format ≡ (scope_of self.entry).format }
     {
         self.types
     }

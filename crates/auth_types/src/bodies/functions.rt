@@ -1,8 +1,6 @@
 // The functions of a program, with their bodies.
-ghost use Rattle.std.specs.Prelude.{◌≡◌, false, [], length, map, List, ℕ, All, IfOk, OnOk};
-ghost use Rattle.core_terms.specs.ProgramFormats.{arrays_of};
+ghost use Rattle.std.specs.Prelude.{◌≡◌, [], length, map, List, ℕ, All, IfOk, OnOk};
 ghost use Rattle.core_terms.specs.Programs.{types_in};
-ghost use Rattle.core_terms.specs.declared.format.Format.TheVariants.{First};
 ghost use Rattle.core_terms.specs.ProgramTrees.{function_of, kind_of, types_at};
 ghost use Rattle.auth_syntax.specs.Trees as written;
 ghost use Rattle.auth_types.specs.Bodies.{checked_function, checked_functions, parameter_locals};
@@ -14,7 +12,7 @@ ghost use Rattle.declared_types.specs.OverTypes.{FindsOver, Grows};
 ghost use Rattle.declared_types.specs.RoleRules.{kind_meant};
 ghost use Rattle.declared_types.specs.WrittenTypes.{type_meant};
 ghost use Rattle.auth_syntax.specs.Syntax as syntax;
-ghost use Rattle.declared_types.specs.Scopes.{AreWithin, IsCounted, IsHeadWithin, IsWithin, functions_meant, scope_meant, signature_meant};
+ghost use Rattle.declared_types.specs.Scopes.{AreHeadsOf, AreWithin, IsCounted, IsHeadWithin, IsWithin, functions_meant, scope_meant, signature_meant};
 
 use crate::bodies::elaborator::Elaborator;
 use auth_syntax::tree::{FunctionKind, Parameter};
@@ -68,7 +66,7 @@ impl<'s, 'a> Elaborator<'s, 'a> {
         requires within { AreWithin (length (types_of self.old)) types.now }
         ensures types { types_of self.new ≡ types_of self.old }
         ensures scope { scope_of self.new ≡ scope_of self.old }
-        ensures locals { OnOk result ((names : List (List ℕ)) → locals_of self.old ≡ [] → types_at (types_of self.old) types.now ≡ map (λ (p : syntax.ParameterSyntax). type_meant names p.of_type) (map written.parameter_of parameters.now) → locals_of self.new ≡ parameter_locals names (map written.parameter_of parameters.now)) }
+        ensures locals { OnOk result ((names : List (List ℕ)) → locals_of self.old ≡ [] → types_at (types_of self.old) types.now ≡ map (λ (p : syntax.ParameterSyntax). type_meant (scope_of self.old).format names p.of_type) (map written.parameter_of parameters.now) → locals_of self.new ≡ parameter_locals (scope_of self.old).format names (map written.parameter_of parameters.now)) }
     {
         for (index, parameter) in parameters.iter().enumerate() {
             self.push(&parameter.name, types[index])?;
@@ -82,7 +80,7 @@ impl<'s, 'a> Elaborator<'s, 'a> {
         requires count { IsCounted head.now }
         requires locals { locals_of self.old ≡ [] }
         ensures keeps { OnOk result (Keeps self.old self.new) }
-        ensures found { (names : List (List ℕ)) → signature_meant (types_of self.old) head.now ≡ signature_of names (written.function_of head.now.function.now) → FindsOver (types_of self.new) function_of (checked_function names (scope_of self.old) (written.function_of head.now.function.now)) result }
+        ensures found { (names : List (List ℕ)) → signature_meant (types_of self.old) head.now ≡ signature_of (scope_of self.old).format names (written.function_of head.now.function.now) → FindsOver (types_of self.new) function_of (checked_function names (scope_of self.old) (written.function_of head.now.function.now)) result }
         ensures literals { OnOk result (HasGoodLiterals (written.expression_of head.now.function.now.body)) }
         ensures parameters { IfOk result (λ f. f.parameters.items ≡ head.now.parameters.items) }
         ensures gives { IfOk result (λ f. f.result ≡ head.now.result) }
@@ -107,10 +105,9 @@ pub(crate) fn fourth_pass(
 ) -> Result<Bodies, TypeFault>
     requires within { IsWithin (length (types_in types)) scope.now }
     requires counts { All IsCounted scope.now.heads.items }
-    requires plain { arrays_of types.format ≡ false }
     ensures grows { IfOk result (λ bodies. Grows (types_in types) (types_in bodies.types)) }
-    ensures format { IfOk result (λ bodies. bodies.types.format ≡ First) }
-    ensures found { (names : List (List ℕ)) → map (signature_meant (types_in types)) scope.now.heads.items ≡ map (signature_of names) (functions_meant scope.now) → Finds (λ bodies. functions_of (types_in bodies.types) bodies.functions) (checked_functions names (scope_meant (types_in types) scope.now) (functions_meant scope.now)) result }
+    ensures format { IfOk result (λ bodies. bodies.types.format ≡ types.format) }
+    ensures found { (names : List (List ℕ)) → AreHeadsOf types.format names (types_in types) scope.now → Finds (λ bodies. functions_of (types_in bodies.types) bodies.functions) (checked_functions names (scope_meant types.format (types_in types) scope.now) (functions_meant scope.now)) result }
     ensures parameters { IfOk result (λ bodies. map (λ (f : Function). f.parameters.items) bodies.functions.items ≡ map (λ (h : Head). h.parameters.items) scope.now.heads.items) }
     ensures results { IfOk result (λ bodies. map (λ (f : Function). f.result) bodies.functions.items ≡ map (λ (h : Head). h.result) scope.now.heads.items) }
     ensures literals { OnOk result (All (λ (f : syntax.FunctionSyntax). HasGoodLiterals f.body) (functions_meant scope.now)) }

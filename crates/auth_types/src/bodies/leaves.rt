@@ -34,6 +34,7 @@ impl<'s, 'a> Elaborator<'s, 'a> {
             | ExpTree::Binary(..)
             | ExpTree::Call(..)
             | ExpTree::Constructor(..)
+            | ExpTree::Operate(..)
             | ExpTree::Let { .. }
             | ExpTree::If { .. }
             | ExpTree::Match { .. } => unreachable!(),

@@ -9,7 +9,7 @@ ghost use Rattle.declared_types.specs.Signatures.{Scope};
 
 use crate::bodies::calls::Space;
 use crate::bodies::joins::Join;
-use auth_syntax::tree::{Arm, ExpTree, UnaryOperator};
+use auth_syntax::tree::{Arm, ArrayOperator, ExpTree, UnaryOperator};
 use core_terms::Name;
 use lexemes::place::Place;
 
@@ -20,6 +20,7 @@ pub(super) enum Parts<'a> {
     One(UnaryOperator, &'a ExpTree),
     Two(Join<'a>, &'a ExpTree, &'a ExpTree),
     Row(Space, Place, &'a Name, &'a [ExpTree]),
+    Array(Place, ArrayOperator, &'a [ExpTree]),
     Branches(&'a ExpTree, &'a ExpTree, &'a ExpTree),
     Arms(Place, &'a ExpTree, &'a [Arm]),
 }
@@ -46,6 +47,7 @@ pub(super) fn parts_of(tree: &ExpTree) -> Parts<'_>
         ExpTree::Constructor(at, name, operands) => {
             Parts::Row(Space::Constructors, *at, name, operands)
         }
+        ExpTree::Operate(at, operator, operands) => Parts::Array(*at, *operator, operands),
         ExpTree::Let {
             name,
             bound,

@@ -17,7 +17,7 @@ use Rattle.auth_types.proofs.bodies.functions.fourth_pass.Given as goal
 abbrev pub invariant-loop-head : goal.invariant-loop-head
 invariant-loop-head l = record {
   keeps : Keeps l.initial.elaborator l.elaborator;
-  found : (names : List (List ℕ)) → map (signature_meant (types_of l.initial.elaborator)) l.scope.heads.items ≡ map (signature_of names)
+  found : (names : List (List ℕ)) → map (signature_meant (types_of l.initial.elaborator)) l.scope.heads.items ≡ map (signature_of (scope_of l.initial.elaborator).format names)
       (functions_meant l.scope)
       → (more : List Ty) → checked_functions names (scope_of l.initial.elaborator) (functions_meant l.scope)
       ≡ functions_behind (map (function_of (types_of l.elaborator ++ more)) l.functions.items)

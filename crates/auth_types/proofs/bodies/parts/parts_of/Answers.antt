@@ -2,7 +2,7 @@ use Rattle.std.proofs.Common.{refl, sym}
 use Rattle.lexemes.specs.Places.{start}
 use Rattle.auth_syntax.specs.Trees.{expression_of, name_of}
 use Rattle.auth_types.proofs.JoinSteps.{let_is_two, operation_is_two, pair_is_two}
-use Rattle.auth_types.proofs.TreeViews.{expression-Pair, expression-Binary, expression-Call, expression-Constructor, expression-Let}
+use Rattle.auth_types.proofs.TreeViews.{expression-Pair, expression-Binary, expression-Call, expression-Constructor, expression-Operate, expression-Let}
 use Rattle.auth_types.proofs.bodies.parts.parts_of.Goals as goal
 
 pub returns-in-Pair-clause-found : goal.returns-in-Pair-clause-found
@@ -25,3 +25,6 @@ returns-in-Call-clause-found c = λ scope locals. rw (c.in-Call.is, expression-C
 
 pub returns-in-Constructor-clause-found : goal.returns-in-Constructor-clause-found
 returns-in-Constructor-clause-found c = λ scope locals. rw (c.in-Constructor.is, expression-Constructor, c.deref-in-Constructor.ensures.value) refl
+
+pub returns-in-Operate-clause-found : goal.returns-in-Operate-clause-found
+returns-in-Operate-clause-found c = λ scope locals. rw (c.in-Operate.is, expression-Operate, c.deref-in-Operate.ensures.value) refl

@@ -52,6 +52,9 @@ decreases-match_with l = 6 * max (size-ExpTree l.subject.now) (most size-Arm l.a
 abbrev pub decreases-applied : goal.decreases-applied
 decreases-applied l = 6 * goal.size-applied l + 4
 
+abbrev pub decreases-on_array : goal.decreases-on_array
+decreases-on_array l = 6 * goal.size-on_array l + 4
+
 abbrev pub decreases-operands : goal.decreases-operands
 decreases-operands l = 6 * goal.size-operands l + 3
 

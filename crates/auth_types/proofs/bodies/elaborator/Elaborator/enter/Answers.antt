@@ -24,5 +24,5 @@ loop-index-preserved c =
 
 pub returns-clause-locals : goal.returns-clause-locals
 returns-clause-locals c = λ names none same.
-    entered_last names c.args.parameters.now _ c.loop-index.index (locals_of c.args.self.now) (locals_of c.loop-index.self)
+    entered_last _ names c.args.parameters.now _ c.loop-index.index (locals_of c.args.self.now) (locals_of c.loop-index.self)
     (none_here c.args.parameters.now c.loop-index.index c.loop-index-test.false) none same c.loop-index.invariant.locals

@@ -1,5 +1,7 @@
-use Rattle.auth_types.proofs.OperationSteps.{plain_is_first}
+use Rattle.std.proofs.Common.{refl}
+use Rattle.auth_types.specs.Elaborators.{scope_of}
 use Rattle.auth_types.proofs.bodies.elaborator.Elaborator.into_types.Goals as goal
 
 pub returns-clause-format : goal.returns-clause-format
-returns-clause-format c = plain_is_first _ c.args.self.plain
+unfolding scope_of
+returns-clause-format c = refl
