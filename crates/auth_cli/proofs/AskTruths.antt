@@ -8,39 +8,23 @@ use Rattle.core_terms.specs.Terms.{Program}
 use Rattle.core_terms.specs.Types.{Ty, has_tags}
 use Rattle.core_terms.proofs.LawProofs.{typing_test_is_exact}
 use Rattle.core_terms.proofs.Limited.{all_pass}
-use Rattle.auth_syntax.specs.Parsing.{Parsed, Tree, FirstFault, parsed}
-use Rattle.auth_syntax.specs.Syntax as syntax
-use Rattle.auth_types.specs.Checking.{Checking, Sound, FaultAt}
-use Rattle.auth_types.specs.CheckedPrograms.{all_passes, as_checked, checked}
-use Rattle.auth_types.specs.CheckedPrograms as checking
 use Rattle.auth_types.proofs.SoundPrograms.{checked_is_within_limits}
 use Rattle.ask_script.proofs.ByteArguments.{arguments_are_bytes}
 use Rattle.script_play.proofs.Runs.{plays_tell_truth}
 use Rattle.session_meaning.proofs.ClientRun.{told_is_true}
 use Rattle.file_commands.specs.Answer.{Asking}
 use Rattle.auth_cli.specs.Asking.{IsOfTexts, TellsTrueOutcomes}
-use Rattle.file_commands.specs.TextPrograms.{IsProgram, of_parsed, program_of_text}
-use Rattle.file_commands.proofs.SoundTexts.{checked_is, sound_format, text_is_sound}
+use Rattle.file_commands.specs.TextPrograms.{IsProgram, program_of_text}
+use Rattle.file_commands.proofs.PassedTrees.{text_of_program}
+use Rattle.file_commands.proofs.SoundTexts.{sound_format, text_is_sound}
 
--- each constructor of a program that is given has a tag of one byte
-passed : (found : Checking Program) (P : Program) → as_checked found ≡ checking.IsProgram P → found ≡ Sound P
-passed (Sound Q) P e = cc
-passed (FaultAt kind at) P e = absurd (cc)
-
-tree_tags : (program : syntax.Program) (P : Program) → checked program ≡ checking.IsProgram P → has_tags P.types ≡ true
-unfolding checked
-tree_tags program P e =
-    let limits = checked_is_within_limits program P (passed (all_passes program) P e) in
+-- each constructor of a text's program has a tag of one byte
+text_tags : (text : List ℕ) (P : Program) → program_of_text text ≡ IsProgram P → has_tags P.types ≡ true
+text_tags text P e =
+    let found = text_of_program text P e in
+    let limits = checked_is_within_limits found.tree P found.passed in
     all_pass (λ (constructors : List (List Ty)). length constructors ≤ most_constructors)
     (λ (constructors : List (List Ty)). nat_le (length constructors) 255) (λ constructors few. le-leb (length constructors) 255 few) P.types limits.constructors
-
-parsed_tags : (found : Parsed) (P : Program) → of_parsed found ≡ IsProgram P → has_tags P.types ≡ true
-parsed_tags (Tree program) P e = tree_tags program P (checked_is (checked program) P e)
-parsed_tags (FirstFault kind at) P e = absurd (cc)
-
-text_tags : (text : List ℕ) (P : Program) → program_of_text text ≡ IsProgram P → has_tags P.types ≡ true
-unfolding program_of_text
-text_tags text P e = parsed_tags (parsed text) P e
 
 -- whatever replies come
 pub texts_truth : (a : Asking) → IsOfTexts a → TellsTrueOutcomes a

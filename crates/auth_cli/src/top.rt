@@ -35,8 +35,8 @@ use crate::{ask_command, draw_command, host_command, mirror_command, serve_comma
 use command_words::{Command, WordsFault, read};
 use file_commands::{
     Halt, Status, audit_command, check_command, fetch_command, gen_command, ideal_command,
-    init_command, library_command, pieces_command, prove_command, shallow_command, step_command,
-    tell, verify_command,
+    init_command, library_command, migrate_command, pieces_command, prove_command, shallow_command,
+    step_command, tell, verify_command,
 };
 use journal_commands::{found_command, replay_command};
 use lam_outside::{Disk, Files, Net, Sink};
@@ -52,7 +52,7 @@ use std::thread::Threads;
 /// |---|---|---|
 /// | 0 | `ok DIGEST` | `check`: the text is a program, and has this SHA-256 digest |
 /// | 0 | `calls C done D new A used U bytes B` | `gen`: of C calls D ended with a value; together their proofs have A pieces of their own and name U again, and their files have B bytes |
-/// | 0 | `state VALUE` | `shallow`: the projection of the state has this value, and its spelling is stored; `gen`, behind the line of its calls: that of the last state has it |
+/// | 0 | `state VALUE` | `shallow`: the projection of the state has this value, and its spelling is stored; `migrate`: the same by the program that the state is moved to, whose image is stored; `gen`, behind the line of its calls: that of the last state has it |
 /// | 0 | the text | `library`: the program of the library, unchanged |
 /// | 0 | `pieces N` | `pieces`: the mirror that is stored has N pieces |
 /// | 0 | `done VALUE` | the outcome has this value, in projection; the image of the state that `init` or `step` made is stored, and the spelling of the one that `verify` names a file for |
@@ -62,15 +62,17 @@ use std::thread::Threads;
 /// | 0, 5, 8, 10 | `S welcome`, `S done VALUE`, `S trap NAME`, `S out of fuel`, `S stale`, `S refused CODE`, `S closed` | `ask`: what session S is told; other lines may follow |
 /// | 0, 5, 8, 10 | `S out of turn` | `ask`: the script asks what session S can't do as it stands; other lines may follow |
 /// | 2 | `usage: lamauth COMMAND ARGUMENTS` | the words call no command |
-/// | 3 | `trap NAME` | the outcome is this trap: `overflow`, `divzero`, `toobig`, `toodeep` |
+/// | 3 | `trap NAME` | the outcome is this trap: `overflow`, `divzero`, `toobig`, `toodeep`, `index` |
 /// | 4 | `out of fuel` | the outcome is the want of fuel |
 /// | 0, 3, 4 | `agrees ` and such a line | `audit`: the proof is accepted with this outcome, which is the projection of the ideal one |
 /// | 5 | `rejected CAUSE` | the proof is rejected, or a piece of the mirror, for the cause below; in `audit` it shows no collision |
 /// | 5 | `S rejected CAUSE` | `ask`, as the last line: the proof of a call of session S is rejected |
 /// | 5 | `bad reply S stranger`, `bad reply S wrong KIND`, `server closed CODE`, `bad message KIND OFFSET`, `message too long BYTES`, `reply cut`, `reply ended` | `ask`, as the last line: another reply came than one that is waited for, or none; the last four also of `draw`, of what comes where an answer is waited for |
 /// | 6 | `program refused: KIND LINE COLUMN` | the text is no program: its first fault |
-/// | 7 | `input refused: too long ARGUMENT` | the file that `P`, `STATE`, `IMG`, `SCRIPT` or `MIRROR` names is too long, or the image or the mirror for `OUT` would be |
+/// | 7 | `input refused: too long ARGUMENT` | the file that `P`, `Q`, `STATE`, `IMG`, `SCRIPT` or `MIRROR` names is too long, or the image or the mirror for `OUT` would be |
 /// | 7 | `input refused: library unknown` | the library has no program of this name |
+/// | 7 | `input refused: migrate format` | the one program isn't of the first format, or the other not of the second |
+/// | 7 | `input refused: migrate types` | the type declarations of the two programs, as they are printed, or the types of their states differ |
 /// | 7 | `input refused: role unknown` | the program has no role of this name |
 /// | 7 | `input refused: role kind` | the role is not of the kind that the command calls: an init for `init`, an update for `step` and for `verify` with `OUT`, else a query or an update |
 /// | 7 | `input refused: number FUEL` | the fuel isn't of 1 to 20 digits, or above 10^12 |
@@ -104,7 +106,7 @@ use std::thread::Threads;
 /// | 8, 10 | `link fault` | `serve`, `mirror`, `host`: they could not listen; `ask`, `draw`: they could not dial; or, as the last line, a link or an accept failed. 10 where memory was wanting for the image that `serve` stores |
 /// | 9 | a front of the lines, which may end inside of one | the sink failed, or the disk of a journal could not be written, or a file not stored: then nothing is written, but by `host` the line that it listens, and by `serve` and `ask` all lines, or a front of them where the sink failed too |
 /// | 10 | `no memory` | memory was wanting; of `serve`, behind `versions V commits C` where it was for the image to store |
-/// | 11 | `collision PLACE OFFERED HONEST` | `audit`: the first offered piece that differs from the honest one has its digest: the place, and both pieces in lower-case hexadecimal digits, one without bytes as `-` |
+/// | 11 | `collision PLACE OFFERED HONEST` | `audit`: the first offered piece that differs from the honest one has its digest: the place, and both pieces in lower-case hexadecimal digits, one without bytes as `-`; in the second format the fingerprint of their type stands behind them |
 ///
 /// The causes of a rejection; a piece goes by its place, the number in which it is asked for, from 0:
 ///
@@ -122,7 +124,7 @@ use std::thread::Threads;
 /// | `leftover BYTES` | the run ended, and so many bytes are left, or 65536 where there are more |
 ///
 /// The program's text has at most 262,144 bytes, each other file at most 67,108,864, but that a proof that is judged may
-/// have any length. What is refused first in this order ends the run: the words, the program, the role, the fuel, the number of
+/// have any length. What is refused first in this order ends the run: the words, the program, in `migrate` the other program and what both have in common, the role, the fuel, the number of
 /// pieces that are kept, the port, the number of connections, the number of calls in a turn, the state or the image, the argument,
 /// the script, the proof, the mirror, the journal; of `gen` the words, the name, the seed, the number of rounds, the number of pieces that are kept. A file is
 /// opened when all that stands before it is well-formed, so `read fault` comes only from a file that this order had reached. A file is
@@ -386,6 +388,7 @@ fn carry_out_offline<F: Files, O: Sink>(
         Command::Ideal => ideal_command(alloc, words, files, out),
         Command::Step => step_command(alloc, words, files, out),
         Command::Shallow => shallow_command(alloc, words, files, out),
+        Command::Migrate => migrate_command(alloc, words, files, out),
         Command::Prove => prove_command(alloc, words, files, out),
         Command::Verify => verify_command(alloc, words, files, out),
         Command::Audit => audit_command(alloc, words, files, out),

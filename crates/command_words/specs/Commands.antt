@@ -2,7 +2,7 @@
 use Rattle.std.specs.Prelude.{◌≡◌, ◌⊎◌, ◌≤◌, ℕ, List, [], ◌∷◌, ◌++◌, length, map, find, bytes_eq, codes, Option, Some}
 use Rattle.std.specs.Borrow.{Bor}
 use Rattle.command_words.specs.declared.command.Command.{Command}
-use Rattle.command_words.specs.declared.command.Command.TheVariants.{Check, Init, Ideal, Step, Shallow, Prove, Verify, Audit, Library, Gen, Serve, Ask, Pieces, Fetch, Mirror, Draw, Found, Host, Replay}
+use Rattle.command_words.specs.declared.command.Command.TheVariants.{Check, Init, Ideal, Step, Shallow, Migrate, Prove, Verify, Audit, Library, Gen, Serve, Ask, Pieces, Fetch, Mirror, Draw, Found, Host, Replay}
 
 abbrev pub Text : Type 0
 Text = List ℕ
@@ -34,6 +34,7 @@ commands =
     row Ideal (codes "ideal") (codes "P" ∷ codes "ROLE" ∷ codes "IMG" ∷ codes "ARG" ∷ codes "FUEL" ∷ []) ∷
     row Step (codes "step") (codes "P" ∷ codes "ROLE" ∷ codes "IMG" ∷ codes "ARG" ∷ codes "FUEL" ∷ codes "OUT" ∷ []) ∷
     row Shallow (codes "shallow") (codes "P" ∷ codes "IMG" ∷ codes "OUT" ∷ []) ∷
+    row Migrate (codes "migrate") (codes "P" ∷ codes "IMG" ∷ codes "Q" ∷ codes "OUT" ∷ []) ∷
     row Prove (codes "prove") (codes "P" ∷ codes "ROLE" ∷ codes "IMG" ∷ codes "ARG" ∷ codes "FUEL" ∷ codes "N" ∷ codes "OUT" ∷ []) ∷
     row_with Verify (codes "verify") (codes "P" ∷ codes "ROLE" ∷ codes "STATE" ∷ codes "ARG" ∷ codes "FUEL" ∷ codes "PROOF" ∷ []) (codes "OUT" ∷ []) ∷
     row Audit (codes "audit") (codes "P" ∷ codes "ROLE" ∷ codes "IMG" ∷ codes "ARG" ∷ codes "FUEL" ∷ codes "PROOF" ∷ []) ∷

@@ -11,6 +11,7 @@ pub enum Command {
     Ideal,
     Step,
     Shallow,
+    Migrate,
     Prove,
     Verify,
     Audit,
@@ -47,12 +48,13 @@ pub struct Row {
 
 /// The commands.
 #[rattlefmt::skip]
-static COMMANDS: [Row; 19] = [
+static COMMANDS: [Row; 20] = [
     Row { command: Command::Check, name: "check", arguments: &["P"], least: 1 },
     Row { command: Command::Init, name: "init", arguments: &["P", "ROLE", "ARG", "FUEL", "OUT"], least: 5 },
     Row { command: Command::Ideal, name: "ideal", arguments: &["P", "ROLE", "IMG", "ARG", "FUEL"], least: 5 },
     Row { command: Command::Step, name: "step", arguments: &["P", "ROLE", "IMG", "ARG", "FUEL", "OUT"], least: 6 },
     Row { command: Command::Shallow, name: "shallow", arguments: &["P", "IMG", "OUT"], least: 3 },
+    Row { command: Command::Migrate, name: "migrate", arguments: &["P", "IMG", "Q", "OUT"], least: 4 },
     Row { command: Command::Prove, name: "prove", arguments: &["P", "ROLE", "IMG", "ARG", "FUEL", "N", "OUT"], least: 7 },
     Row { command: Command::Verify, name: "verify", arguments: &["P", "ROLE", "STATE", "ARG", "FUEL", "PROOF", "OUT"], least: 6 },
     Row { command: Command::Audit, name: "audit", arguments: &["P", "ROLE", "IMG", "ARG", "FUEL", "PROOF"], least: 6 },

@@ -26,7 +26,10 @@ pub mod ProofOutputs  -- `make_proof`
 pub mod GoingOn  -- `run`, the law `shallow_stores_the_clients_state`: that they go on
 pub mod SoundRoles  -- `find_judgement`; `run`: clauses `companion`, `audited`, `headline`
 pub mod SoundTexts  -- the law `programs_are_sound`
-pub mod TextFormats  -- the law `programs_are_sound`
+pub mod PassedTrees  -- `read_program`, `read_programs`; the law `programs_are_sound`
+pub mod EqualTables  -- `read_programs`
+pub mod MovedImages  -- `find_moved`
+pub mod MovedStates  -- `read_programs`, `find_moved`, `move_state`
 pub mod OnProofs  -- `run`; the law `verdicts_are_on_proofs`
 pub mod NamedConstructors  -- the law `constructors_are_named`
 pub mod ClientStates  -- the law `shallow_stores_the_clients_state`

@@ -101,7 +101,7 @@ reader_headline r state argument proof o reader ideal_state ideal_argument accep
 
 -- a piece of a sound program that is fetched is what the digest is of
 pub sound_whole : (P : Program) → IsSound P → IsOfWhole sha256 P
-sound_whole P sound = λ t bytes. subst (λ (F : Format). F.digest sha256 t bytes ≡ sha256 (unwrap_or (F.print sha256 t) [] ++ bytes)) (sym sound.format) refl
+sound_whole P sound = λ t bytes. subst (λ (F : Format). F.digest sha256 t bytes ≡ sha256 (unwrap_or (F.print sha256 t) [] ++ bytes)) (sym sound.format.2) refl
 
 pub named_whole : (callee : Callee) (program role fuel : List ℕ) (files : Contents) (r : FueledRole) → NamesRole callee program role fuel files r → IsOfWhole sha256 (program_called r)
 named_whole callee program role fuel files r names = sound_whole (program_called r) (text_is_sound names.program_file.text (program_called r) names.program_file.program)

@@ -21,6 +21,12 @@ pub halted : {A T : Type 0} (step : (A → Option Answer) → Option Answer) (va
 halted step value (Ok t) halt is halts = absurd (cc)
 halted step value (Err other) halt is halts = λ go. let same : halt ≡ other = cc in subst (λ h. HaltsAs (step go) h) same (halts go)
 
+-- the same step, where the answer goes on with less
+pub goes_on_as : {A B T : Type 0} (step : (A → Option Answer) → Option Answer) (part : A → B) (value : T → A) (result : Result T Halt)
+    → GoesOn step value result → GoesOn (λ go. step (λ a. go (part a))) (λ t. part (value t)) result
+goes_on_as step part value (Ok t) goes = λ go. goes (λ a. go (part a))
+goes_on_as step part value (Err halt) goes = λ go. goes (λ a. go (part a))
+
 -- what halts the first of two steps halts both
 pub halts_first : {A B T : Type 0} (first : (A → Option Answer) → Option Answer) (next : A → (B → Option Answer) → Option Answer) (value : T → B) (result : Result T Halt) (halt : Halt)
     → result ≡ Err halt → ((go : A → Option Answer) → HaltsAs (first go) halt) → GoesOn (λ go. first (λ a. next a go)) value result

@@ -1,9 +1,9 @@
 -- What a run answers: its status, the lines that it writes and the files that it stores.
-use Rattle.std.specs.Prelude.{ℕ, List, [], ◌∷◌, ◌++◌, length, map, Bool, true, false, bytes_eq, nat_le, codes, Option, Some, None, if◌then◌else◌}
+use Rattle.std.specs.Prelude.{ℕ, List, [], ◌∷◌, ◌++◌, length, map, Bool, true, false, ◌&&◌, not, bytes_eq, nat_le, codes, Option, Some, None, if◌then◌else◌}
 use Rattle.sha2.specs.Sha256.{sha256}
 use Rattle.command_words.specs.Invocations.{Invocation, invocation_of}
 use Rattle.command_words.specs.declared.command.Command.{Command}
-use Rattle.command_words.specs.declared.command.Command.TheVariants.{Check, Init, Ideal, Step, Shallow, Prove, Verify, Audit, Library, Gen, Serve, Ask, Pieces, Fetch, Mirror, Draw, Found, Host, Replay}
+use Rattle.command_words.specs.declared.command.Command.TheVariants.{Check, Init, Ideal, Step, Shallow, Migrate, Prove, Verify, Audit, Library, Gen, Serve, Ask, Pieces, Fetch, Mirror, Draw, Found, Host, Replay}
 use Rattle.ads_library.specs.Texts.{library_text}
 use Rattle.lam_outside.specs.Told.{Contents, Stores}
 use Rattle.core_terms.specs.ProgramFormats.{most_kept_pieces}
@@ -14,6 +14,7 @@ use Rattle.core_terms.specs.Terms.{Kind, Query, Update, Program, function_at}
 use Rattle.core_terms.specs.Roles.{role_named, argument_type}
 use Rattle.core_terms.specs.Spelling.{spelling}
 use Rattle.core_terms.specs.Projection.{projection, read_at}
+use Rattle.core_terms.specs.Typing.{same_type}
 use Rattle.printed_syntax.specs.Literals.{Literal, IsValue, FirstFault}
 use Rattle.printed_syntax.specs.declared.fault.LiteralKind.TheVariants.{Mismatch}
 use Rattle.ideal_meaning.specs.Ideal as ideal
@@ -31,7 +32,9 @@ use Rattle.printed_lines.specs.declared.refusal.Argument.TheVariants as named
 use Rattle.printed_lines.specs.declared.refusal.ImageKind.{ImageKind}
 use Rattle.printed_lines.specs.declared.refusal.ImageKind.TheVariants as kind
 use Rattle.printed_lines.specs.declared.refusal.InputFault.{InputFault}
-use Rattle.printed_lines.specs.declared.refusal.InputFault.TheVariants.{TooLong, LibraryUnknown, RoleUnknown, RoleKind, Number, State, Literal as BadLiteral, Image as BadImage, Mirror as BadMirror, Script as BadScript}
+use Rattle.printed_lines.specs.declared.refusal.InputFault.TheVariants.{TooLong, LibraryUnknown, Migration, RoleUnknown, RoleKind, Number, State, Literal as BadLiteral, Image as BadImage, Mirror as BadMirror, Script as BadScript}
+use Rattle.printed_lines.specs.declared.refusal.MigrationKind.{MigrationKind}
+use Rattle.printed_lines.specs.declared.refusal.MigrationKind.TheVariants as migration
 use Rattle.printed_lines.specs.declared.refusal.MirrorKind.{MirrorKind}
 use Rattle.printed_lines.specs.declared.refusal.MirrorKind.TheVariants as mirror
 use Rattle.printed_lines.specs.declared.refusal.Refusal.{Refusal}
@@ -45,10 +48,10 @@ use Rattle.workloads.specs.declared.workload.Workload.{Workload}
 use Rattle.file_commands.specs.Arguments.{fuel_of, most_links, most_port, most_rounds, most_seed, most_slice, positive_within}
 use Rattle.number_words.specs.Numbers.{number_within}
 use Rattle.fetched_verdicts.specs.Verdicts.{verdict_over}
-use Rattle.file_commands.specs.FueledRoles.{DigestedProgram, FueledRole, NamedProgram}
+use Rattle.file_commands.specs.FueledRoles.{DeclaredProgram, DigestedProgram, FueledRole, NamedProgram}
 use Rattle.file_commands.specs.IdealCalls.{IdealCall, call_audit, call_proof, call_proof_line, ended_call, projected_outcome}
 use Rattle.file_commands.specs.RoleCalls.{EndedRole, ended_with, is_called, kind_called, passed_literal, program_called, projection_called, result_called, state_made}
-use Rattle.file_commands.specs.TextPrograms.{TextProgram, IsProgram, IsRefused, constructor_names_of_text, program_of_text}
+use Rattle.file_commands.specs.TextPrograms.{TextProgram, IsProgram, IsRefused, constructor_names_of_text, program_of_text, types_text_of_text}
 use Rattle.file_commands.specs.declared.roles.Callee.{Callee}
 use Rattle.file_commands.specs.declared.roles.Callee.TheVariants as callee
 use Rattle.file_commands.specs.declared.status.Status.{Status}
@@ -116,8 +119,16 @@ abbrev pub with_text : List ℕ → (NamedProgram → Option Answer) → Option 
 with_text text go =
     with_program (sha256 text) (program_of_text text) (λ p. go (record { digested = p; names = constructor_names_of_text text }))
 
+abbrev pub with_named_file : Argument → Option (List ℕ) → (NamedProgram → Option Answer) → Option Answer
+with_named_file word file go = with_file max_program word file (λ text. with_text text go)
+
 abbrev pub with_program_file : Option (List ℕ) → (NamedProgram → Option Answer) → Option Answer
-with_program_file file go = with_file max_program named.Program file (λ text. with_text text go)
+with_program_file file go = with_named_file named.Program file go
+
+-- the same with the type declarations of the text
+abbrev pub with_declared_file : Argument → Option (List ℕ) → (DeclaredProgram → Option Answer) → Option Answer
+with_declared_file word file go =
+    with_file max_program word file (λ text. with_text text (λ p. go (record { named = p; types_text = types_text_of_text text })))
 
 -- goes on with the number that an argument tells
 abbrev pub with_number : Argument → Option ℕ → (ℕ → Option Answer) → Option Answer
@@ -314,6 +325,36 @@ outcome_stored r o name = outcome_told r o
 
 abbrev pub storing_answer : EndedRole → List ℕ → Answer
 storing_answer ended name = outcome_stored ended.role ended.outcome name
+
+-- Why no state of a program is moved to another, where it isn't: the other's format has arrays and the one's has none; both declare the same
+-- types, by the same names, and have the same type of state.
+unfoldable pub migration_fault : DeclaredProgram → DeclaredProgram → Option MigrationKind
+migration_fault p q =
+    let P = p.named.digested.program in
+    let Q = q.named.digested.program in
+    if not P.format.arrays && Q.format.arrays
+    then (if bytes_eq p.types_text q.types_text && same_type P.state Q.state then None else Some migration.Types)
+    else Some migration.Format
+
+-- goes on where the states of a program may be moved to another
+abbrev pub with_no_fault : Option MigrationKind → Option Answer → Option Answer
+with_no_fault None go = go
+with_no_fault (Some kind) go = Some (input_refused (Migration kind))
+
+abbrev pub with_migration : DeclaredProgram → DeclaredProgram → Option Answer → Option Answer
+with_migration p q go = with_no_fault (migration_fault p q) go
+
+-- what is answered for an ideal state that is kept as one of a program: its projection by that program, with its image stored
+abbrev pub moved_answer : NamedProgram → Value → List ℕ → Answer
+moved_answer q v name = storing q.digested v name (says Done (projected_line q v))
+
+-- `migrate P IMG Q OUT`: the state that an image of P keeps, as one of Q. Both programs are judged, and then what they have in common, before
+-- the image is read.
+abbrev pub migrated_answer : (program image other out : List ℕ) → Contents → Option Answer
+migrated_answer program image other out files =
+    with_declared_file named.Program (files program) (λ p.
+    with_declared_file named.Other (files other) (λ q.
+    with_migration p q (with_image_file p.named.digested (files image) (λ v. Some (moved_answer q.named v out)))))
 
 -- `init P ROLE ARG FUEL OUT`: the state that an init makes
 abbrev pub initial_answer : (program role argument fuel out : List ℕ) → Contents → Option Answer
@@ -688,7 +729,7 @@ abbrev pub undrawn_answer : (program role state argument fuel port : List ℕ) �
 undrawn_answer program role state argument fuel port files = with_drawing program role state argument fuel port files (λ d. None)
 
 -- What is answered to a command with the texts of its arguments: `check P`, `init P ROLE ARG FUEL OUT`, `ideal P ROLE IMG ARG FUEL`,
--- `step P ROLE IMG ARG FUEL OUT`, `shallow P IMG OUT`, `prove P ROLE IMG ARG FUEL N OUT`, `verify P ROLE STATE ARG FUEL PROOF`, or this with `OUT` behind it, `audit P ROLE IMG ARG FUEL PROOF`,
+-- `step P ROLE IMG ARG FUEL OUT`, `shallow P IMG OUT`, `migrate P IMG Q OUT`, `prove P ROLE IMG ARG FUEL N OUT`, `verify P ROLE STATE ARG FUEL PROOF`, or this with `OUT` behind it, `audit P ROLE IMG ARG FUEL PROOF`,
 -- `library NAME`, `gen NAME SEED COUNT N`, `serve P IMG PORT CONNS SLICE OUT` as long as it doesn't listen, `ask P STATE PORT SCRIPT OUT` as
 -- long as it doesn't dial, `pieces P IMG OUT`, `fetch P ROLE STATE ARG FUEL MIRROR`, `mirror MIRROR PORT CONNS` as long as it doesn't listen,
 -- `draw P ROLE STATE ARG FUEL PORT` as long as it doesn't dial, and `found P IMG JOURNAL`, `host P JOURNAL PORT CONNS SLICE` and `replay P JOURNAL OUT`
@@ -699,6 +740,7 @@ answer_with Init (program ∷ role ∷ argument ∷ fuel ∷ out ∷ []) = initi
 answer_with Ideal (program ∷ role ∷ image ∷ argument ∷ fuel ∷ []) = ideal_answer program role image argument fuel
 answer_with Step (program ∷ role ∷ image ∷ argument ∷ fuel ∷ out ∷ []) = stepped_answer program role image argument fuel out
 answer_with Shallow (program ∷ image ∷ out ∷ []) = spelled_answer program image out
+answer_with Migrate (program ∷ image ∷ other ∷ out ∷ []) = migrated_answer program image other out
 answer_with Prove (program ∷ role ∷ image ∷ argument ∷ fuel ∷ kept ∷ out ∷ []) = proved_answer program role image argument fuel kept out
 answer_with Verify (program ∷ role ∷ state ∷ argument ∷ fuel ∷ proof ∷ []) = judged_answer program role state argument fuel proof None
 answer_with Verify (program ∷ role ∷ state ∷ argument ∷ fuel ∷ proof ∷ out ∷ []) = judged_answer program role state argument fuel proof (Some out)

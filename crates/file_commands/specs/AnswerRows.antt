@@ -4,10 +4,13 @@ use Rattle.std.specs.Prelude.{◌≡◌, ◌≤◌, ◌^◌, ℕ, true, false, L
 use Rattle.sha2.specs.Sha256.{sha256}
 use Rattle.auth_syntax.specs.Parsing as parsing
 use Rattle.auth_syntax.specs.Syntax.{Program as ProgramSyntax}
-use Rattle.auth_types.specs.CheckedPrograms.{constructors_in}
+use Rattle.auth_types.specs.CheckedPrograms.{constructors_in, names_of, table_of_program}
 use Rattle.command_words.specs.Invocations.{Invocation}
-use Rattle.command_words.specs.declared.command.Command.TheVariants.{Check, Init, Ideal, Step, Shallow, Prove, Verify, Audit, Library, Gen, Serve, Ask, Pieces, Fetch, Mirror, Draw, Found, Host, Replay}
+use Rattle.command_words.specs.declared.command.Command.TheVariants.{Check, Init, Ideal, Step, Shallow, Migrate, Prove, Verify, Audit, Library, Gen, Serve, Ask, Pieces, Fetch, Mirror, Draw, Found, Host, Replay}
+use Rattle.core_terms.specs.Formats as formats
+use Rattle.core_terms.specs.Formats.{first_format, second_format}
 use Rattle.core_terms.specs.Programs.{meaning, types_of}
+use Rattle.core_terms.specs.ProgramTypes.{text_of}
 use Rattle.core_terms.specs.Projection.{digest_at}
 use Rattle.core_terms.specs.Reading.{BadAt}
 use Rattle.core_terms.specs.RoleViews.{role_kind_of}
@@ -15,8 +18,9 @@ use Rattle.core_terms.specs.Roles.{IsRole, role_result}
 use Rattle.core_terms.specs.Spelling.{spelling}
 use Rattle.core_terms.specs.Terms as tree
 use Rattle.core_terms.specs.Terms.{Query, Update, function_at}
+use Rattle.core_terms.specs.TypeDeclarations.{types_text}
 use Rattle.core_terms.specs.TypeTables.{type_at}
-use Rattle.core_terms.specs.Types.{UnitTy, IntTy, PairTy}
+use Rattle.core_terms.specs.Types.{Ty, UnitTy, IntTy, PairTy}
 use Rattle.core_terms.specs.Values.{Value}
 use Rattle.core_terms.specs.declared.program.Program.{Program}
 use Rattle.core_terms.specs.declared.roles.Role.{Role}
@@ -25,11 +29,15 @@ use Rattle.ideal_meaning.specs.Ideal as ideal
 use Rattle.ideal_meaning.specs.Run.{Trap}
 use Rattle.images.specs.declared.load.Loaded.{Loaded}
 use Rattle.lam_outside.specs.Told.{Contents}
+use Rattle.lexemes.specs.declared.fault.SyntaxKind.{SyntaxKind}
+use Rattle.lexemes.specs.declared.place.Place.{Place}
 use Rattle.mode_vm.specs.IdealRuns.{IsOutcome}
 use Rattle.printed_lines.specs.declared.refusal.Argument.{Argument}
 use Rattle.printed_lines.specs.declared.refusal.Argument.TheVariants as named
 use Rattle.printed_lines.specs.declared.refusal.InputFault.{InputFault}
-use Rattle.printed_lines.specs.declared.refusal.InputFault.TheVariants.{TooLong, LibraryUnknown, RoleUnknown, RoleKind, Number, State, Literal as BadLiteral}
+use Rattle.printed_lines.specs.declared.refusal.InputFault.TheVariants.{TooLong, LibraryUnknown, Migration, RoleUnknown, RoleKind, Number, State, Literal as BadLiteral}
+use Rattle.printed_lines.specs.declared.refusal.MigrationKind.{MigrationKind}
+use Rattle.printed_lines.specs.declared.refusal.MigrationKind.TheVariants.{Format, Types}
 use Rattle.printed_lines.specs.declared.refusal.ProgramKind.{ProgramKind}
 use Rattle.printed_lines.specs.declared.refusal.Refusal.TheVariants as refusal
 use Rattle.printed_lines.specs.declared.refusal.Rejection.{Rejection}
@@ -39,15 +47,16 @@ use Rattle.value_store.specs.Nodes.{Node}
 use Rattle.value_store.specs.Standing.{ProverNodes, StandsFor}
 use Rattle.value_store.specs.Stores.{nodes_in, store_lent}
 use Rattle.value_store.specs.declared.node.Ref.{Ref}
-use Rattle.file_commands.specs.Answer.{Answer, Drawing, Founding, Mirroring, answer_with, audited_answer, called_answer, callee_of, checked_answer, command_answer, fetched_answer, filed_answer, first_argument, first_role, first_shared, generated_answer, ideal_answer, initial_answer, input_refused, is_entry, is_get, is_key, is_put, judged_answer, keys_of, library_answer, max_file, max_program, proved_answer, refusal_status, shallow_told, spelled_answer, spelling_stored, state_image, stepped_answer, storing, unasked_answer, undrawn_answer, unfounded_answer, unhosted_answer, unmirrored_answer, unreplayed_answer, unserved_answer, usage_answer, verdict_answer, with_drawing, with_drawn, with_ended_init, with_file, with_first, with_founding, with_fueled_role, with_image, with_image_bytes, with_mirror_file, with_mirroring, with_number, with_program_file, with_role_at, with_role_call, with_source, with_state_read}
+use Rattle.file_commands.specs.Answer.{Answer, Drawing, Founding, Mirroring, answer_with, audited_answer, called_answer, callee_of, checked_answer, command_answer, fetched_answer, filed_answer, first_argument, first_role, first_shared, generated_answer, ideal_answer, initial_answer, input_refused, is_entry, is_get, is_key, is_put, judged_answer, keys_of, library_answer, max_file, max_program, migrated_answer, migration_fault, proved_answer, refusal_status, shallow_told, spelled_answer, spelling_stored, state_image, stepped_answer, storing, unasked_answer, undrawn_answer, unfounded_answer, unhosted_answer, unmirrored_answer, unreplayed_answer, unserved_answer, usage_answer, verdict_answer, with_drawing, with_drawn, with_ended_init, with_file, with_first, with_founding, with_fueled_role, with_image, with_image_bytes, with_mirror_file, with_mirroring, with_no_fault, with_number, with_program_file, with_role_at, with_role_call, with_source, with_state_read}
 use Rattle.file_commands.specs.CallsInStores.{HoldsCall, HoldsSome}
-use Rattle.file_commands.specs.FueledRoles.{DigestedProgram, FueledRole, NamedProgram}
+use Rattle.file_commands.specs.FueledRoles.{DeclaredProgram, DigestedProgram, FueledRole, NamedProgram}
 use Rattle.file_commands.specs.IdealCalls.{IdealCall}
-use Rattle.file_commands.specs.ReadPrograms.{ReadsProgram}
+use Rattle.file_commands.specs.MovedStates.{KeepsStates}
+use Rattle.file_commands.specs.ReadPrograms.{ReadsProgram, declared_of}
 use Rattle.file_commands.specs.RoleCalls.{EndedRole, is_called, kind_called, result_called, state_made}
 use Rattle.file_commands.specs.RolesCalled.{CallsOnStates, EndsIn, HasEnded, IsCalled, IsEnded, IsRoleOf, IsStateMade, MakesStates, prover_nodes, role_of}
 use Rattle.file_commands.specs.StoredStates.{IsStoredState}
-use Rattle.file_commands.specs.TextPrograms.{TextProgram, IsProgram, IsRefused, constructors_of_parsed}
+use Rattle.file_commands.specs.TextPrograms.{TextProgram, IsProgram, IsRefused, constructors_of_parsed, types_text_of_parsed}
 use Rattle.file_commands.specs.declared.ideal_calls.IdealCall.{IdealCall as HeldCall}
 use Rattle.file_commands.specs.declared.machine_calls.Ended.{Ended}
 use Rattle.file_commands.specs.declared.programs.ProgramFault.TheVariants as program_fault
@@ -137,14 +146,46 @@ first_fuel p name go = refl
 pub sources : (text : List ℕ) (go : List ℕ → Option Answer) → (with_source None go ≡ Some (input_refused LibraryUnknown)) × (with_source (Some text) go ≡ go text)
 sources text go = (refl, refl)
 
+-- STATES THAT ARE MOVED
+-- a program of this format, with this type of state and these type declarations
+abbrev pub declaring : formats.Format → Ty → List ℕ → DeclaredProgram
+declaring format state types_text = record {
+  named = record { digested = record { program = record { format = format; types = []; state = state; functions = [] }; digest = [] }; names = λ number. [] };
+  types_text = types_text;
+}
+
+-- from the first format to the second alone, and where the types are the same
+module _ (text : List ℕ) where
+  abbrev pub two_units : List ℕ
+  two_units = codes "type a = A;\n"
+
+  pub moved : migration_fault (declaring (first_format 1024) IntTy two_units) (declaring (second_format text 1024) IntTy two_units) ≡ None
+  unfolding migration_fault
+  moved = refl
+
+  pub other_format : map (λ other. migration_fault (declaring (first_format 1024) IntTy two_units) other)
+      (declaring (first_format 1024) IntTy two_units ∷ declaring (second_format text 1024) IntTy (codes "type a = B;\n") ∷ declaring (second_format text 1024) UnitTy two_units ∷ [])
+      ≡ Some Format ∷ Some Types ∷ Some Types ∷ []
+  unfolding migration_fault
+  other_format = refl
+
+  pub from_second : map (λ other. migration_fault (declaring (second_format text 1024) IntTy two_units) other)
+      (declaring (first_format 1024) IntTy two_units ∷ declaring (second_format text 1024) IntTy two_units ∷ []) ≡ Some Format ∷ Some Format ∷ []
+  unfolding migration_fault
+  from_second = refl
+
+pub migrations : (kind : MigrationKind) (go : Option Answer) → (with_no_fault None go ≡ go) × (with_no_fault (Some kind) go ≡ Some (input_refused (Migration kind)))
+migrations kind go = (refl, refl)
+
 -- COMMANDS
 module _ (p a b c d e f : List ℕ) (files : Contents) where
   pub commands : (answer_with Check (p ∷ []) files ≡ checked_answer p files) × (answer_with Init (p ∷ a ∷ b ∷ c ∷ d ∷ []) files ≡ initial_answer p a b c d files)
       × (answer_with Ideal (p ∷ a ∷ b ∷ c ∷ d ∷ []) files ≡ ideal_answer p a b c d files)
       × (answer_with Step (p ∷ a ∷ b ∷ c ∷ d ∷ e ∷ []) files ≡ stepped_answer p a b c d e files)
       × (answer_with Shallow (p ∷ a ∷ b ∷ []) files ≡ spelled_answer p a b files)
+      × (answer_with Migrate (p ∷ a ∷ b ∷ c ∷ []) files ≡ migrated_answer p a b c files)
       × (answer_with Prove (p ∷ a ∷ b ∷ c ∷ d ∷ e ∷ f ∷ []) files ≡ proved_answer p a b c d e f files)
-  commands = (refl, refl, refl, refl, refl, refl)
+  commands = (refl, refl, refl, refl, refl, refl, refl)
 
   pub further_commands : (answer_with Verify (p ∷ a ∷ b ∷ c ∷ d ∷ e ∷ []) files ≡ judged_answer p a b c d e None files)
       × (answer_with Verify (p ∷ a ∷ b ∷ c ∷ d ∷ e ∷ f ∷ []) files ≡ judged_answer p a b c d e (Some f) files)
@@ -242,7 +283,19 @@ module _ {A : Type 0} (means : A → tree.Program) (found : TextProgram) (p : A)
 pub constructors : (program : ProgramSyntax) → constructors_of_parsed (parsing.Tree program) ≡ constructors_in program.declarations
 constructors program = refl
 
+-- a text without a tree declares nothing
+pub declarations : (program : ProgramSyntax) (kind : SyntaxKind) (at : Place) → (types_text_of_parsed (parsing.Tree program) ≡ types_text (names_of program) (constructors_in program.declarations) (table_of_program program))
+    × (types_text_of_parsed (parsing.FirstFault kind at) ≡ [])
+declarations program kind at = (refl, refl)
+
+-- two programs the states of one of which are states of the other
+pub keeps_states : (from to : tree.Program) (k : KeepsStates from to) → (to.types ≡ from.types) × (to.state ≡ from.state) × (from.format.limit ≤ to.format.limit) × (from.format.arrays ≡ false)
+keeps_states from to k = (k.types, k.state, k.limit, k.arrays)
+
 -- WHAT THE CODE HOLDS
+pub declared : (p : Program) → (declared_of p).types_text ≡ text_of p.types
+declared p = refl
+
 pub stored_state : (P : tree.Program) (loaded : Loaded) (v : Value) (s : IsStoredState P loaded v)
     → StandsFor (ProverNodes (digest_at sha256 P)) P.types (nodes_in loaded.store) loaded.root.0 P.state v × HasLimit P (store_lent loaded.store)
 stored_state P loaded v s = (s.stands, s.limit)

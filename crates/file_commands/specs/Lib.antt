@@ -14,6 +14,7 @@ pub mod CallRows
 pub mod Halting
 pub mod IdealCalls
 pub mod LineRows
+pub mod MovedStates
 pub mod NamedCalls
 pub mod ProvedCalls
 pub mod AuditedCalls

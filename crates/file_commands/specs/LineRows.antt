@@ -3,7 +3,8 @@ use Rattle.std.specs.Prelude.{◌≡◌, ℕ, true, List, [], ◌∷◌, map, dr
 use Rattle.std.specs.List.{concat}
 use Rattle.std.specs.Io.KnownBytes.{append_known}
 use Rattle.std.proofs.Common.{arith, inl, inr}
-use Rattle.auth_types.specs.CheckedPrograms.{program_format}
+use Rattle.core_terms.specs.Formats.{first_format, second_format}
+use Rattle.core_terms.specs.declared.format.Format.TheVariants.{First, Second}
 use Rattle.command_words.specs.Invocations.{calls, invocation_of}
 use Rattle.command_words.specs.declared.command.Command.TheVariants.{Verify}
 use Rattle.core_terms.specs.Projection.{projection}
@@ -24,8 +25,8 @@ use Rattle.file_commands.specs.Ending.{Outside}
 use Rattle.file_commands.specs.FueledRoles.{FueledRole}
 use Rattle.file_commands.specs.NamedCalls.{named_program}
 use Rattle.file_commands.specs.RoleCalls.{is_called, kind_called, passed_literal, program_called, result_called}
-use Rattle.file_commands.specs.SoundPrograms.{GivesSound, IsOfText, IsOutcome, IsSound}
-use Rattle.file_commands.specs.TextPrograms.{IsProgram, TextProgram, program_of_text}
+use Rattle.file_commands.specs.SoundPrograms.{GivesSound, IsOfDeclared, IsOfText, IsOneOfTwo, IsOutcome, IsSound}
+use Rattle.file_commands.specs.TextPrograms.{IsProgram, TextProgram, program_of_text, types_text_of_text}
 use Rattle.file_commands.specs.TrueLines.{CallsVerify, IsTrueLine, TellsOutcome, words_of}
 use Rattle.file_commands.specs.declared.status.Status.TheVariants.{Done, Usage, Trap, OutOfFuel, Rejected, ProgramRefused, InputRefused, ReadFault, WriteFault, NoMemory, Collision}
 
@@ -44,11 +45,18 @@ pub of_outcomes : IsOutcome Done × IsOutcome Trap × IsOutcome OutOfFuel × (Is
 of_outcomes = (tt, tt, tt, (λ o. o), (λ o. o), (λ o. o), (λ o. o), (λ o. o), (λ o. o), (λ o. o), (λ o. o))
 
 -- PROGRAMS OF TEXTS
-pub is_sound : (P : Program) (s : IsSound P) → (is_typed P ≡ true) × (is_shaped P ≡ true) × (P.format ≡ program_format)
+pub is_sound : (P : Program) (s : IsSound P) → (is_typed P ≡ true) × (is_shaped P ≡ true) × IsOneOfTwo P.format
 is_sound P s = (s.typed, s.shaped, s.format)
 
 pub of_text : (P : Program) (text : List ℕ) → program_of_text text ≡ IsProgram P → IsOfText P
 of_text P text is = (text, is)
+
+pub of_declared : (P : Program) (text declared : List ℕ) → program_of_text text ≡ IsProgram P → types_text_of_text text ≡ declared → IsOfDeclared declared P
+of_declared P text declared is declares = (text, is, declares)
+
+-- and its format is the first or the second
+pub one_of_two : (text : List ℕ) → IsOneOfTwo (first_format 1024) × IsOneOfTwo (second_format text 1024)
+one_of_two text = ((First, [], refl), (Second, text, refl))
 
 pub gives_sound : (reading : List ℕ → TextProgram) → GivesSound reading → (text : List ℕ) (P : Program) → reading text ≡ IsProgram P → IsSound P
 gives_sound reading gives = gives

@@ -1,5 +1,6 @@
 -- What reading a program says of the program of its text. Where memory ran out nothing is said.
 use Rattle.std.specs.Prelude.{◌≡◌, Result, Ok, Err, ⊤}
+use Rattle.core_terms.specs.ProgramTypes.{text_of}
 use Rattle.core_terms.specs.Programs.{constructor_names, meaning}
 use Rattle.core_terms.specs.Terms as tree
 use Rattle.core_terms.specs.declared.program.Program.{Program}
@@ -7,7 +8,7 @@ use Rattle.lexemes.specs.Readings.{SyntaxFault}
 use Rattle.core_terms.specs.declared.fault.Fault.TheVariants as fault
 use Rattle.auth_types.specs.Outcomes.{TypeFault}
 use Rattle.printed_lines.specs.declared.refusal.ProgramKind.TheVariants.{Syntax, Typing}
-use Rattle.file_commands.specs.FueledRoles.{DigestedProgram, NamedProgram}
+use Rattle.file_commands.specs.FueledRoles.{DeclaredProgram, DigestedProgram, NamedProgram}
 use Rattle.file_commands.specs.TextPrograms.{TextProgram, IsProgram, IsRefused}
 use Rattle.file_commands.specs.declared.programs.ProgramFault.{ProgramFault}
 use Rattle.file_commands.specs.declared.programs.ProgramFault.TheVariants.{At, NoMemory}
@@ -35,3 +36,7 @@ digested_of p = record { program = meaning p; digest = p.text_digest.0 }
 -- the same with the names of its constructors
 abbrev pub named_of : Program → NamedProgram
 named_of p = record { digested = digested_of p; names = constructor_names p.types.named.items }
+
+-- and with its type declarations, printed
+abbrev pub declared_of : Program → DeclaredProgram
+declared_of p = record { named = named_of p; types_text = text_of p.types }

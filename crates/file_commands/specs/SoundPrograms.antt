@@ -1,21 +1,31 @@
 -- The programs of texts are well-typed.
 use Rattle.std.specs.Prelude.{◌≡◌, ℕ, true, List}
+use Rattle.core_terms.specs.ProgramFormats.{format_with}
+use Rattle.core_terms.specs.Formats as meant
 use Rattle.core_terms.specs.Terms.{Program}
 use Rattle.core_terms.specs.Typing.{is_typed, is_shaped}
-use Rattle.auth_types.specs.CheckedPrograms.{program_format}
-use Rattle.file_commands.specs.TextPrograms.{TextProgram, IsProgram, program_of_text}
+use Rattle.core_terms.specs.declared.format.Format.{Format}
+use Rattle.file_commands.specs.TextPrograms.{TextProgram, IsProgram, program_of_text, types_text_of_text}
 use Rattle.file_commands.specs.declared.status.Status.{Status}
 use Rattle.file_commands.specs.declared.status.Status.TheVariants.{Done, Trap, OutOfFuel}
 
--- the program is well-typed, its roles have their shapes, and its format is that of every program
+-- the format is one of the two, with type declarations that are printed as some text
+abbrev pub IsOneOfTwo : meant.Format → Type 0
+IsOneOfTwo format = (one : Format) × (text : List ℕ) × (format ≡ format_with one text)
+
+-- the program is well-typed, its roles have their shapes, and its format is one of the two
 pub record IsSound (P : Program) : Type 0 where
   pub typed : is_typed P ≡ true
   pub shaped : is_shaped P ≡ true
-  pub format : P.format ≡ program_format
+  pub format : IsOneOfTwo P.format
 
 -- the program is that of a text
 abbrev pub IsOfText : Program → Type 0
 IsOfText P = (text : List ℕ) × (program_of_text text ≡ IsProgram P)
+
+-- the same of a text whose type declarations are printed as this one
+abbrev pub IsOfDeclared : List ℕ → Program → Type 0
+IsOfDeclared declared P = (text : List ℕ) × (program_of_text text ≡ IsProgram P) × (types_text_of_text text ≡ declared)
 
 -- by a reading of texts each program that a text gives is sound
 abbrev pub GivesSound : (List ℕ → TextProgram) → Type 0

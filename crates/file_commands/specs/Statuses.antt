@@ -1,7 +1,7 @@
 -- The statuses that a command may answer, whatever the files hold.
 use Rattle.std.specs.Prelude.{◌≡◌}
 use Rattle.command_words.specs.declared.command.Command.{Command}
-use Rattle.command_words.specs.declared.command.Command.TheVariants.{Check, Shallow, Verify, Audit, Library, Gen, Serve, Ask, Pieces, Fetch, Mirror, Draw, Found, Host, Replay}
+use Rattle.command_words.specs.declared.command.Command.TheVariants.{Check, Shallow, Migrate, Verify, Audit, Library, Gen, Serve, Ask, Pieces, Fetch, Mirror, Draw, Found, Host, Replay}
 use Rattle.file_commands.specs.declared.status.Status.{Status}
 use Rattle.file_commands.specs.declared.status.Status.TheVariants.{Usage, Trap, OutOfFuel, Rejected, ProgramRefused, ReadFault, Collision}
 
@@ -9,6 +9,7 @@ use Rattle.file_commands.specs.declared.status.Status.TheVariants.{Usage, Trap, 
 abbrev pub RunsAFunction : Command → Type 0
 RunsAFunction Check = ⊥
 RunsAFunction Shallow = ⊥
+RunsAFunction Migrate = ⊥
 RunsAFunction Library = ⊥
 RunsAFunction Serve = ⊥
 RunsAFunction Ask = ⊥

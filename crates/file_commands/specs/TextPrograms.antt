@@ -4,7 +4,7 @@ use Rattle.core_terms.specs.Terms.{Program}
 use Rattle.printed_syntax.specs.Literals.{ConstructorNames}
 use Rattle.auth_syntax.specs.Parsing.{Parsed, parsed}
 use Rattle.auth_syntax.specs.Parsing as parsing
-use Rattle.auth_types.specs.CheckedPrograms.{Checked, checked, constructors_in}
+use Rattle.auth_types.specs.CheckedPrograms.{Checked, checked, constructors_in, declared_text_of}
 use Rattle.auth_types.specs.CheckedPrograms as checking
 use Rattle.printed_lines.specs.declared.refusal.ProgramKind.{ProgramKind}
 use Rattle.printed_lines.specs.declared.refusal.ProgramKind.TheVariants.{Syntax, Typing}
@@ -34,3 +34,13 @@ constructors_of_parsed (parsing.FirstFault kind at) = []
 -- The names of the constructors of the n-th type that a text declares, from 0, in the order in which it declares them: by tag.
 unfoldable pub constructor_names_of_text : List ℕ → ConstructorNames
 constructor_names_of_text text n = unwrap_or (slice_get (constructors_of_parsed (parsed text)) n) []
+
+-- the type declarations of a tree, printed
+abbrev pub types_text_of_parsed : Parsed → List ℕ
+types_text_of_parsed (parsing.Tree program) = declared_text_of program
+types_text_of_parsed (parsing.FirstFault kind at) = []
+
+-- The type declarations of a text, printed: each type with its name, its constructors with theirs and the types of their fields, in the order
+-- in which the text declares them. So texts that differ in blanks, comments or functions alone have the same.
+unfoldable pub types_text_of_text : List ℕ → List ℕ
+types_text_of_text text = types_text_of_parsed (parsed text)

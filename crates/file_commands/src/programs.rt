@@ -2,20 +2,21 @@
 ghost use Rattle.std.specs.Prelude.{◌≡◌, ◌≤◌, length, IfOk};
 ghost use Rattle.std.specs.Option.{ForSome};
 ghost use Rattle.sha2.specs.Sha256.{sha256};
+ghost use Rattle.core_terms.specs.ProgramTypes.{text_of};
 ghost use Rattle.core_terms.specs.Programs.{constructor_names, meaning};
 ghost use Rattle.file_commands.specs.Reaching.{FaultsAt};
-ghost use Rattle.file_commands.specs.Answer.{with_program_file};
+ghost use Rattle.file_commands.specs.Answer.{with_declared_file, with_program_file};
 ghost use Rattle.file_commands.specs.Halting.{GoesOn, HaltCause};
-ghost use Rattle.file_commands.specs.ReadPrograms.{ReadsProgram, named_of};
-ghost use Rattle.file_commands.specs.SoundPrograms.{IsOfText};
-ghost use Rattle.file_commands.specs.TextPrograms.{constructor_names_of_text, program_of_text};
+ghost use Rattle.file_commands.specs.ReadPrograms.{ReadsProgram, declared_of, named_of};
+ghost use Rattle.file_commands.specs.SoundPrograms.{IsOfDeclared, IsOfText};
+ghost use Rattle.file_commands.specs.TextPrograms.{constructor_names_of_text, program_of_text, types_text_of_text};
 
 use crate::Halt;
 use crate::report::load;
 use auth_syntax::parser::parse;
 use auth_types::check::check;
-use auth_types::fault::TypeFault;
 use core_terms::{Hash32, Program};
+use declared_types::fault::TypeFault;
 use digest_layer::Sha;
 use lam_outside::Files;
 use lexemes::fault::SyntaxFault;
@@ -78,6 +79,7 @@ pub fn read_program(alloc: Global, text: &[u8]) -> Result<Program, ProgramFault>
     ensures answer { ReadsProgram meaning (program_of_text text.now) result }
     ensures digest { IfOk result (λ p. p.text_digest.0 ≡ sha256 text.now) }
     ensures names { IfOk result (λ p. constructor_names p.types.named.items ≡ constructor_names_of_text text.now) }
+    ensures types { IfOk result (λ p. text_of p.types ≡ types_text_of_text text.now) }
 {
     let ast = parse(alloc, text)?;
     Ok(check(alloc, ast, Sha::of(text))?)
@@ -97,6 +99,24 @@ pub fn read_program_file<F: Files>(
     ensures stores { F.stores files.new ≡ F.stores files.old }
     ensures store_faults { F.store_faults files.new ≡ F.store_faults files.old }
 {
-    let text = load(alloc, files, Argument::Program, name, MAX_PROGRAM)?;
+    read_named_program(alloc, files, Argument::Program, name)
+}
+
+/// The program in a file, which this argument names.
+pub fn read_named_program<F: Files>(
+    alloc: Global,
+    files: &mut F,
+    argument: Argument,
+    name: &str,
+) -> Result<Program, Halt>
+    ensures goes { ForSome (F.contents files.old) (λ told. GoesOn (with_declared_file argument (told name.now)) declared_of result) }
+    ensures text { IfOk result (λ program. IsOfDeclared (text_of program.types) (meaning program)) }
+    ensures asked { FaultsAt name.now (F.asked files.new) result }
+    ensures cause { HaltCause (F.faults files.old) (F.faults files.new) result }
+    ensures contents { F.contents files.new ≡ F.contents files.old }
+    ensures stores { F.stores files.new ≡ F.stores files.old }
+    ensures store_faults { F.store_faults files.new ≡ F.store_faults files.old }
+{
+    let text = load(alloc, files, argument, name, MAX_PROGRAM)?;
     Ok(read_program(alloc, &text)?)
 }

@@ -61,7 +61,7 @@ pub fn load_image_bytes<F: Files>(
 }
 
 /// The ideal state in an image of the program, over the prover's nodes.
-fn load_state(alloc: Global, program: &Program, bytes: &[u8]) -> Result<Loaded, Halt>
+pub fn load_state(alloc: Global, program: &Program, bytes: &[u8]) -> Result<Loaded, Halt>
     ensures goes { InHand (GoesOnFor (with_image (digested_of program.now) bytes.now) (IsStoredState (meaning program.now))) result }
     ensures stands { IfOk result (λ loaded. (v : Value) × IsStoredState (meaning program.now) loaded v) }
 {

@@ -27,9 +27,11 @@ use Rattle.printed_lines.specs.declared.refusal.Argument.TheVariants as argument
 use Rattle.printed_lines.specs.declared.refusal.ImageKind.{ImageKind}
 use Rattle.printed_lines.specs.declared.refusal.ImageKind.TheVariants as image
 use Rattle.printed_lines.specs.declared.refusal.InputFault.{InputFault}
-use Rattle.printed_lines.specs.declared.refusal.InputFault.TheVariants.{TooLong, LibraryUnknown, RoleUnknown, RoleKind, Number, State, Literal, Image, Mirror, Journal, Script}
+use Rattle.printed_lines.specs.declared.refusal.InputFault.TheVariants.{TooLong, LibraryUnknown, Migration, RoleUnknown, RoleKind, Number, State, Literal, Image, Mirror, Journal, Script}
 use Rattle.printed_lines.specs.declared.refusal.JournalKind.{JournalKind}
 use Rattle.printed_lines.specs.declared.refusal.JournalKind.TheVariants as journal
+use Rattle.printed_lines.specs.declared.refusal.MigrationKind.{MigrationKind}
+use Rattle.printed_lines.specs.declared.refusal.MigrationKind.TheVariants as migration
 use Rattle.printed_lines.specs.declared.refusal.MirrorKind.{MirrorKind}
 use Rattle.printed_lines.specs.declared.refusal.MirrorKind.TheVariants as mirror
 use Rattle.printed_lines.specs.declared.refusal.Refusal.{Refusal}
@@ -84,6 +86,7 @@ typing_name typing.AuthInArgument = codes "AuthInArgument"
 typing_name typing.WrongType = codes "WrongType"
 typing_name typing.NotPair = codes "NotPair"
 typing_name typing.NotAuth = codes "NotAuth"
+typing_name typing.NotVec = codes "NotVec"
 typing_name typing.NotSum = codes "NotSum"
 typing_name typing.ArmsWrong = codes "ArmsWrong"
 typing_name typing.WrongCount = codes "WrongCount"
@@ -99,6 +102,7 @@ program_name (Typing kind) = typing_name kind
 -- the names of arguments
 abbrev pub argument_name : Argument → List ℕ
 argument_name argument.Program = codes "P"
+argument_name argument.Other = codes "Q"
 argument_name argument.State = codes "STATE"
 argument_name argument.Fuel = codes "FUEL"
 argument_name argument.Image = codes "IMG"
@@ -111,6 +115,11 @@ argument_name argument.Connections = codes "CONNS"
 argument_name argument.Slice = codes "SLICE"
 argument_name argument.Script = codes "SCRIPT"
 argument_name argument.Mirror = codes "MIRROR"
+
+-- why a state is not moved from one program to another
+abbrev pub migration_text : MigrationKind → List ℕ
+migration_text migration.Format = codes "migrate format"
+migration_text migration.Types = codes "migrate types"
 
 -- why bytes are no image
 abbrev pub image_text : ImageKind → List ℕ
@@ -142,6 +151,7 @@ journal_text (journal.Image kind) = codes "journal" ++ word (image_text kind)
 abbrev pub input_text : InputFault → List ℕ
 input_text (TooLong argument) = codes "too long" ++ word (argument_name argument)
 input_text LibraryUnknown = codes "library unknown"
+input_text (Migration kind) = migration_text kind
 input_text RoleUnknown = codes "role unknown"
 input_text RoleKind = codes "role kind"
 input_text (Number argument) = codes "number" ++ word (argument_name argument)

@@ -10,7 +10,9 @@ ghost use Rattle.ideal_meaning.specs.Told.{trap_told};
 ghost use Rattle.printed_lines.specs.Lines as def;
 
 use crate::names::{argument_name, literal_name, program_name};
-use crate::refusal::{ImageKind, InputFault, JournalKind, MirrorKind, ProgramKind, Refusal};
+use crate::refusal::{
+    ImageKind, InputFault, JournalKind, MigrationKind, MirrorKind, ProgramKind, Refusal,
+};
 use crate::rejections::rejection_line;
 use core_terms::{Digest, Program, Trap, TyId};
 use printed_syntax::printing::print_value;
@@ -54,6 +56,7 @@ fn input_text(alloc: Global, fault: InputFault) -> Result<String, AllocError>
             format!(in alloc; "too long {word}")
         }
         InputFault::LibraryUnknown => format!(in alloc; "library unknown"),
+        InputFault::Migration(kind) => migration_text(alloc, kind),
         InputFault::RoleUnknown => format!(in alloc; "role unknown"),
         InputFault::RoleKind => format!(in alloc; "role kind"),
         InputFault::Number(word) => {
@@ -69,6 +72,16 @@ fn input_text(alloc: Global, fault: InputFault) -> Result<String, AllocError>
         InputFault::Mirror(kind) => mirror_text(alloc, kind),
         InputFault::Journal(kind) => journal_text(alloc, kind),
         InputFault::Script(line) => format!(in alloc; "script {line}"),
+    }
+}
+
+/// Why a state is not moved.
+fn migration_text(alloc: Global, kind: MigrationKind) -> Result<String, AllocError>
+    ensures { IfOk result (λ text. string_bytes text ≡ def.migration_text kind) }
+{
+    match kind {
+        MigrationKind::Format => format!(in alloc; "migrate format"),
+        MigrationKind::Types => format!(in alloc; "migrate types"),
     }
 }
 

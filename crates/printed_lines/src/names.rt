@@ -69,6 +69,7 @@ fn typing_name(kind: TypeKind) -> &'static str
         TypeKind::WrongType => "WrongType",
         TypeKind::NotPair => "NotPair",
         TypeKind::NotAuth => "NotAuth",
+        TypeKind::NotVec => "NotVec",
         TypeKind::NotSum => "NotSum",
         TypeKind::ArmsWrong => "ArmsWrong",
         TypeKind::WrongCount => "WrongCount",
@@ -89,6 +90,7 @@ pub(crate) fn argument_name(argument: Argument) -> &'static str
 {
     match argument {
         Argument::Program => "P",
+        Argument::Other => "Q",
         Argument::State => "STATE",
         Argument::Fuel => "FUEL",
         Argument::Image => "IMG",

@@ -20,6 +20,8 @@ pub enum ProgramKind {
 pub enum Argument {
     /// `P`, the file of a program.
     Program,
+    /// `Q`, the file of the program that a state is moved to.
+    Other,
     /// `STATE`, the file of a state's spelling.
     State,
     /// `FUEL`
@@ -95,6 +97,15 @@ pub enum JournalKind {
     Image(ImageKind),
 }
 
+/// Why a state is not moved from one program to another.
+#[derive(Clone, Copy)]
+pub enum MigrationKind {
+    /// The one is not of the first format, or the other not of the second.
+    Format,
+    /// Their type declarations, as they are printed, or the types of their states differ.
+    Types,
+}
+
 /// Why an input is refused.
 #[derive(Clone, Copy)]
 pub enum InputFault {
@@ -102,6 +113,8 @@ pub enum InputFault {
     TooLong(Argument),
     /// No program of the library has the name.
     LibraryUnknown,
+    /// A state is not moved between the two programs.
+    Migration(MigrationKind),
     /// No role of the program has the name.
     RoleUnknown,
     /// The role is not one that the command calls.

@@ -1,6 +1,8 @@
+use Rattle.auth_cli.specs.NetRows.{use_no_net}
+use Rattle.auth_cli.proofs.AskTruths.{texts_truth}
 use Rattle.std.proofs.Common.{None, refl, sym, subst}
 use Rattle.command_words.specs.Commands.{IsOfCommand, texts}
-use Rattle.command_words.specs.declared.command.Command.TheVariants.{Check, Init, Ideal, Step, Shallow, Prove, Verify, Audit, Library, Gen, Pieces, Fetch}
+use Rattle.command_words.specs.declared.command.Command.TheVariants.{Check, Init, Ideal, Step, Shallow, Migrate, Prove, Verify, Audit, Library, Gen, Pieces, Fetch}
 use Rattle.file_commands.specs.Statuses.{MayAnswer}
 use Rattle.file_commands.proofs.Words.{counted, ends_known, reached_known, within}
 use Rattle.auth_cli.proofs.top.carry_out_offline.Goals as goal
@@ -50,6 +52,15 @@ returns-in-Shallow-clause-ends g c = ends_known c.args.command Shallow (texts c.
 pub returns-in-Shallow-clause-possible : goal.returns-in-Shallow-clause-possible
 returns-in-Shallow-clause-possible g c = subst (λ command. MayAnswer command c.shallow_command.result) (sym c.in-Shallow.is) c.shallow_command.ensures.possible
 
+pub migrate_command-requires : goal.migrate_command-requires
+migrate_command-requires g c = counted Migrate c.args.words.now refl (subst (λ command. IsOfCommand command (texts c.args.words.now)) c.in-Migrate.is c.requires.command)
+
+pub returns-in-Migrate-clause-ends : goal.returns-in-Migrate-clause-ends
+returns-in-Migrate-clause-ends g c = ends_known c.args.command Migrate (texts c.args.words.now) _ _ c.migrate_command.result c.in-Migrate.is c.migrate_command.ensures.ends
+
+pub returns-in-Migrate-clause-possible : goal.returns-in-Migrate-clause-possible
+returns-in-Migrate-clause-possible g c = subst (λ command. MayAnswer command c.migrate_command.result) (sym c.in-Migrate.is) c.migrate_command.ensures.possible
+
 pub prove_command-requires : goal.prove_command-requires
 prove_command-requires g c = counted Prove c.args.words.now refl (subst (λ command. IsOfCommand command (texts c.args.words.now)) c.in-Prove.is c.requires.command)
 
@@ -94,6 +105,9 @@ returns-in-Step-clause-reached g c = λ is. reached_known c.args.command Step (t
 
 pub returns-in-Shallow-clause-reached : goal.returns-in-Shallow-clause-reached
 returns-in-Shallow-clause-reached g c = λ is. reached_known c.args.command Shallow (texts c.args.words.now) _ _ c.in-Shallow.is (c.shallow_command.ensures.reached is)
+
+pub returns-in-Migrate-clause-reached : goal.returns-in-Migrate-clause-reached
+returns-in-Migrate-clause-reached g c = λ is. reached_known c.args.command Migrate (texts c.args.words.now) _ _ c.in-Migrate.is (c.migrate_command.ensures.reached is)
 
 pub returns-in-Prove-clause-reached : goal.returns-in-Prove-clause-reached
 returns-in-Prove-clause-reached g c = λ is. reached_known c.args.command Prove (texts c.args.words.now) _ _ c.in-Prove.is (c.prove_command.ensures.reached is)
