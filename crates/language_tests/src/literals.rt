@@ -16,7 +16,7 @@ pub fn of_type(alloc: Global, ty: &str) -> Result<Program, AllocError> {
 }
 
 /// Whether a text is a literal of the state's type, spelled so.
-fn is_spelled(alloc: Global, program: &Program, text: &str, wanted: &[u8]) -> bool {
+pub fn is_spelled(alloc: Global, program: &Program, text: &str, wanted: &[u8]) -> bool {
     match parse_literal(alloc, program, program.state_type(), text) {
         Ok(spelling) => spelling.as_bytes() == wanted,
         Err(_) => false,
@@ -62,14 +62,14 @@ fn literals_are_spelled(rt: HostRuntime) -> Result<(), Fail> {
 
 /// What reading a text as a literal gives: the length of the spelling, or the first fault.
 #[derive(Clone, Copy, PartialEq)]
-enum Answer {
+pub enum Answer {
     Spelled(usize),
     Refused(LiteralKind, usize),
     NoMemory,
 }
 
 /// Reads a text as a literal of the state's type.
-fn read(alloc: Global, program: &Program, text: &str) -> Answer {
+pub fn read(alloc: Global, program: &Program, text: &str) -> Answer {
     match parse_literal(alloc, program, program.state_type(), text) {
         Ok(spelling) => Answer::Spelled(spelling.as_bytes().len()),
         Err(LiteralFault::At(kind, offset)) => Answer::Refused(kind, offset),

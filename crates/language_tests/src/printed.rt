@@ -5,7 +5,7 @@ use std::alloc::{AllocError, Global};
 use std::test::Fail;
 
 /// A text, and the text that it is printed as.
-type Row = (&'static [u8], &'static [u8]);
+pub type Row = (&'static [u8], &'static [u8]);
 
 /// Each declaration stands on a line. Words that would join stand apart, and a `(` stands at the name or the operation before it alone.
 static TEXTS: [Row; 13] = [
@@ -57,7 +57,7 @@ static TEXTS: [Row; 13] = [
 ];
 
 /// Whether a text is printed so, and what is printed is printed as itself.
-fn is_printed_so(alloc: Global, text: &[u8], wanted: &[u8]) -> Result<bool, AllocError> {
+pub fn is_printed_so(alloc: Global, text: &[u8], wanted: &[u8]) -> Result<bool, AllocError> {
     let Some(first) = printed(alloc, text)? else {
         return Ok(false);
     };

@@ -6,7 +6,7 @@ use std::alloc::Global;
 use std::test::Fail;
 
 /// Whether the value of the state's type that these bytes spell is printed so.
-fn is_printed(alloc: Global, program: &Program, bytes: &[u8], text: &str) -> bool {
+pub fn is_printed(alloc: Global, program: &Program, bytes: &[u8], text: &str) -> bool {
     match print_value(alloc, program, program.state_type(), bytes) {
         Ok(printed) => printed.as_slice() == text.as_bytes(),
         Err(_) => false,

@@ -3,11 +3,15 @@
 #![tactic(auto)]
 
 #[cfg(test)]
+mod arrays;
+#[cfg(test)]
 mod endless;
 #[cfg(test)]
 mod inputs;
 #[cfg(test)]
 mod library;
+#[cfg(test)]
+mod moved;
 #[cfg(test)]
 mod programs;
 #[cfg(test)]
