@@ -1,6 +1,6 @@
 -- Arms that are laid one behind the other: where they begin and end.
 use Rattle.std.proofs.Common.{◌≡◌, ℕ, suc, ◌+◌, ◌-◌, ◌≤◌, List, [], ◌∷◌, ◌++◌, length, map, take, slice_index_or, ◌<◌, refl, sym, ap, ap₂, ◌∙◌, arith, length-append, append_assoc}
-use Rattle.code_gen.specs.Instructions.{Instruction, Jump}
+use Rattle.core_terms.specs.Instructions.{Instruction, Jump}
 use Rattle.code_gen.specs.Code.{behind, jump_code, laid, places}
 use Rattle.code_gen.proofs.Rows.{taken}
 

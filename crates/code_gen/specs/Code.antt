@@ -1,9 +1,9 @@
 -- The code of expressions, and of programs.
-use Rattle.std.specs.Prelude.{ℕ, zero, suc, ◌+◌, List, [], ◌∷◌, ◌++◌, length, map, unwrap_or, slice_get}
-use Rattle.core_terms.specs.Types.{Ty, UnitTy, Table, fields_at}
-use Rattle.core_terms.specs.Terms.{Expression, UnitE, BoolE, IntE, TextE, LocalE, PairE, FstE, SndE, NotE, LenE, AuthE, UnauthE, ConE, ArithE, CompareE, TextCompareE, CatE, LetE, IfE, MatchE, CallE, OperateE, Operation, Expressions, NoE, AndE, Arms, NoArm, AndArm, Function, Program}
-use Rattle.code_gen.specs.Instructions.{Instruction, PushUnit, PushBool, PushInt, PushText, Load, Bind, Unbind, Pair, Fst, Snd, Make, Switch, Branch, Jump, Call, Return, Auth, Unauth}
-use Rattle.code_gen.specs.Instructions.{ArithOp, CompareOp, TextCompareOp, Cat, Len, Not, VecFill, VecGet, VecPut}
+use Rattle.std.specs.Prelude.{ℕ, zero, suc, ◌+◌, List, [], ◌∷◌, ◌++◌, length, map, unwrap_or, slice_get, Option, Some, None}
+use Rattle.core_terms.specs.Types.{Ty, Table}
+use Rattle.core_terms.specs.Terms.{Expression, UnitE, BoolE, IntE, TextE, LocalE, PairE, FstE, SndE, NotE, LenE, AuthE, UnauthE, ConE, ArithE, CompareE, TextCompareE, CatE, LetE, IfE, MatchE, CallE, OperateE, Operation, Expressions, NoE, AndE, Arms, NoArm, AndArm, Function, Program, coded}
+pub use Rattle.core_terms.specs.Bodies.{FunctionCode, Body, no_function_code, code_at, field_count}
+use Rattle.core_terms.specs.Instructions.{Instruction, PushUnit, PushBool, PushInt, PushText, Load, Bind, Unbind, Pair, Fst, Snd, Make, Switch, Branch, Jump, Call, Return, Auth, Unauth, ArithOp, CompareOp, TextCompareOp, Cat, Len, Not, VecFill, VecGet, VecPut}
 use Rattle.core_terms.specs.Terms as tree
 
 -- A choice between two sides: where the test is false, the first side and the jump behind it are passed over; that jump passes
@@ -39,10 +39,6 @@ places start (arm ∷ later) = start ∷ places (start + length arm + 1) later
 -- a match behind its subject
 abbrev pub match_code : ℕ → List (List Instruction) → List Instruction
 match_code number arms = Switch number (places 0 arms) ∷ laid arms
-
--- the number of fields of a constructor; 0 where there is none
-abbrev pub field_count : Table → ℕ → ℕ → ℕ
-field_count types number tag = length (unwrap_or (fields_at types number tag) [])
 
 -- the instruction of an operation
 abbrev pub operation_code : Operation → Instruction
@@ -87,31 +83,19 @@ module _ (types : Table) where
     arm_codes (AndArm body arms) [] = code_of body ∷ arm_codes arms []
     arm_codes (AndArm body arms) (c ∷ cs) = (code_of body ++ unbind_code (length c)) ∷ arm_codes arms cs
 
--- the code of a function: the types of its parameters, that of its result, and its instructions
-pub record FunctionCode : Type 0 where
-  pub parameters : List Ty
-  pub result : Ty
-  pub code : List Instruction
-
--- What a machine runs, with no source behind it: the greatest number of bytes of a spelling, the named types, and the functions
--- by number.
-pub record Body : Type 0 where
-  pub limit : ℕ
-  pub types : Table
-  pub functions : List FunctionCode
-
 -- a function's body, and the return
 abbrev pub function_code : Table → Function → FunctionCode
 function_code types f = record { parameters = f.parameters; result = f.result; code = code_of types f.body ++ Return ∷ [] }
 
+-- the code of a program that is written
+abbrev pub written_body : Program → Body
+written_body P = record { limit = P.format.limit; types = P.types; functions = map (function_code P.types) P.functions }
+
+-- the code of a program's functions: its own, where it is compiled
+abbrev pub codes_as : Program → Option (List (List Instruction)) → List FunctionCode
+codes_as P None = map (function_code P.types) P.functions
+codes_as P (Some codes) = coded P.functions codes
+
 -- the code of a program
 abbrev pub generated : Program → Body
-generated P = record { limit = P.format.limit; types = P.types; functions = map (function_code P.types) P.functions }
-
--- in the place of a function that isn't there
-abbrev pub no_function_code : FunctionCode
-no_function_code = record { parameters = []; result = UnitTy; code = PushUnit ∷ Return ∷ [] }
-
--- the function with a number
-abbrev pub code_at : Body → ℕ → FunctionCode
-code_at B f = unwrap_or (slice_get B.functions f) no_function_code
+generated P = record { limit = P.format.limit; types = P.types; functions = codes_as P P.code }

@@ -4,7 +4,7 @@ use Rattle.core_terms.specs.Types.{BoolTy, IntTy, Table}
 use Rattle.core_terms.specs.Terms.{UnitE, BoolE, IntE, LocalE, PairE, FstE, NotE, UnauthE, ConE, ArithE, CompareE, LetE, IfE, MatchE, CallE, NoE, AndE, NoArm, AndArm, Inner}
 use Rattle.core_terms.specs.declared.term.Arith.TheVariants.{Sub}
 use Rattle.core_terms.specs.declared.term.Compare.TheVariants.{Le}
-use Rattle.code_gen.specs.Instructions.{PushUnit, PushBool, PushInt, Load, Bind, Unbind, Pair, Fst, Make, Switch, Branch, Jump, Call, Return, Unauth, ArithOp, CompareOp, Not}
+use Rattle.core_terms.specs.Instructions.{PushUnit, PushBool, PushInt, Load, Bind, Unbind, Pair, Fst, Make, Switch, Branch, Jump, Call, Return, Unauth, ArithOp, CompareOp, Not}
 use Rattle.code_gen.specs.Code.{code_of, function_code}
 
 -- one named type, whose constructors have no field, one and two

@@ -1,12 +1,12 @@
 // The arms of a match, laid one behind the other.
 ghost use Rattle.std.specs.Prelude.{◌≡◌, ◌≤◌, ◌+◌, ◌-◌, ◌++◌, length, map, IfOk, OnOk};
 ghost use Rattle.core_terms.specs.Programs.{types_of};
-ghost use Rattle.code_gen.specs.CodeTrees.{Adds, instructions_of, listed};
+ghost use Rattle.code_gen.specs.CodeTrees.{Adds, listed};
+ghost use Rattle.core_terms.specs.InstructionViews.{instructions_of};
 ghost use Rattle.code_gen.specs.Code as meant;
 
-use crate::instruction::Instruction;
 use crate::pieces::{append, put};
-use core_terms::{NamedId, Program};
+use core_terms::{Instruction, NamedId, Program};
 use std::alloc::{AllocError, Global};
 
 /// Adds a match behind its subject: the switch, and its arms.

@@ -4,22 +4,22 @@ ghost use Rattle.core_terms.specs.Programs.{meaning, types_of};
 ghost use Rattle.core_terms.specs.ProgramTrees.{function_of, operation_of};
 ghost use Rattle.core_terms.specs.Types.{Ty};
 ghost use Rattle.code_gen.specs.Code.{operation_code};
-ghost use Rattle.code_gen.specs.CodeTrees.{Adds, arms_code, codes_of, instruction_of, listed, single, term_code, terms_code};
+ghost use Rattle.code_gen.specs.CodeTrees.{Adds, arms_code, codes_of, listed, single, term_code, terms_code};
+ghost use Rattle.core_terms.specs.InstructionViews.{instruction_of};
 ghost use Rattle.code_gen.specs.Code as meant;
-ghost use Rattle.code_gen.specs.Instructions as instruction;
+ghost use Rattle.core_terms.specs.Instructions as instruction;
 
 use crate::arms::select;
-use crate::instruction::Instruction;
 use crate::pieces::{choose, put, put_text, put_unbind};
-use core_terms::{Function, NamedId, Operation, Program, Term};
+use core_terms::{Function, Instruction, NamedId, Operation, Program, Term};
 use std::alloc::{AllocError, Global};
 
-/// The instructions of each function of a program.
+/// The instructions of each function of a written program.
 pub(crate) fn function_codes(
     program: &Program,
     alloc: Global,
 ) -> Result<Vec<Vec<Instruction>>, AllocError>
-    ensures { IfOk result (λ codes. map (λ c. listed program.now c.items) codes.items ≡ codes_of program.now) }
+    ensures { IfOk result (λ codes. map (λ c. listed program.now c.items) codes.items ≡ codes_of (meaning program.now)) }
 {
     let mut codes = Vec::new(alloc);
     for function in program.functions() {

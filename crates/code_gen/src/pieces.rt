@@ -4,10 +4,9 @@ ghost use Rattle.core_terms.specs.Programs.{meaning};
 ghost use Rattle.core_terms.specs.Texts.{bytes_of};
 ghost use Rattle.code_gen.specs.CodeTrees.{Adds, listed, single};
 ghost use Rattle.code_gen.specs.Code as meant;
-ghost use Rattle.code_gen.specs.Instructions as instruction;
+ghost use Rattle.core_terms.specs.Instructions as instruction;
 
-use crate::instruction::Instruction;
-use core_terms::{NamedId, Program, Text};
+use core_terms::{Instruction, NamedId, Program, Text};
 use std::alloc::{AllocError, Global};
 
 /// Adds an instruction.

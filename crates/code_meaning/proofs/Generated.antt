@@ -1,12 +1,13 @@
 -- The code of a typed program is accepted.
 use Rattle.std.proofs.Common.{◌≡◌, ℕ, true, zero, suc, ◌+◌, List, [], ◌∷◌, ◌++◌, length, Some, unwrap_or, slice_get, refl, sym, ap, ◌∙◌, subst, arith, append_assoc, append-nil, length-append}
-use Rattle.core_terms.specs.Types.{Ty, BoolTy, IntTy, TextTy, PairTy, NamedTy, AuthTy, VecTy, fields_at}
-use Rattle.core_terms.specs.Terms.{Expression, UnitE, BoolE, IntE, TextE, LocalE, PairE, FstE, SndE, NotE, LenE, AuthE, UnauthE, ConE, ArithE, CompareE, TextCompareE, CatE, LetE, IfE, MatchE, CallE, OperateE, Operation, VecFill, VecGet, VecPut, operand_types, result_type, is_operation, Expressions, NoE, AndE, Arms, NoArm, AndArm, Program, function_at, HasType, HaveTypes, HaveArms, IsTyped}
-use Rattle.code_gen.specs.Instructions.{Instruction, PushUnit, PushBool, PushInt, PushText, Load, Bind, Unbind, Pair, Fst, Snd, Make, Switch, Branch, Jump, Call, Return, Auth, Unauth, ArithOp, CompareOp, TextCompareOp, Cat, Len, Not}
-use Rattle.code_gen.specs.Code.{unbind_code, laid, places, operation_code, code_of, code_all, arm_codes, generated}
-use Rattle.code_meaning.specs.Accept.{Shape, shape, push_types, Fits, IsFine, IsAccepted}
-use Rattle.code_meaning.proofs.Parts.{on_fields, in_table}
-use Rattle.code_meaning.proofs.Follows.{on_function, function_there, code_found, typed_at}
+use Rattle.core_terms.specs.Types.{Ty, BoolTy, IntTy, TextTy, PairTy, NamedTy, AuthTy, fields_at}
+use Rattle.core_terms.specs.Terms.{Expression, UnitE, BoolE, IntE, TextE, LocalE, PairE, FstE, SndE, NotE, LenE, AuthE, UnauthE, ConE, ArithE, CompareE, TextCompareE, CatE, LetE, IfE, MatchE, CallE, OperateE, Operation, VecFill, VecGet, VecPut, operand_types, result_type, is_operation, Expressions, NoE, AndE, Arms, NoArm, AndArm, Program, function_at, HasType, HaveTypes, HaveArms, IsWrittenWell}
+use Rattle.core_terms.specs.Instructions.{Instruction, PushUnit, PushBool, PushInt, PushText, Load, Bind, Unbind, Pair, Fst, Snd, Make, Switch, Branch, Jump, Call, Return, Auth, Unauth, ArithOp, CompareOp, TextCompareOp, Cat, Len, Not}
+use Rattle.code_gen.specs.Code.{unbind_code, laid, places, operation_code, code_of, code_all, arm_codes, written_body}
+use Rattle.core_terms.specs.Accepted.{Shape, shape, push_types, Fits, IsFine, IsAccepted}
+use Rattle.ideal_meaning.proofs.Parts.{on_fields, in_table}
+use Rattle.code_meaning.proofs.Follows.{on_function, function_there, typed_at}
+use Rattle.code_meaning.proofs.Follows.{code_found}
 
 abbrev At : List Shape → ℕ → Shape → Type 0
 At shapes n s = slice_get shapes n ≡ Some s
@@ -18,14 +19,14 @@ past (x ∷ xs) ys (suc m) n s e h = let l : length xs ≡ m = omega (arith, e) 
 
 module _ (P : Program) (z : Ty) where
   abbrev fits : Instruction → Shape → List Shape → Type 0
-  fits i s more = Fits (generated P) z i s.locals s.operands (λ n ls os. slice_get more n ≡ Some (shape ls os))
+  fits i s more = Fits (written_body P) z i s.locals s.operands (λ n ls os. slice_get more n ≡ Some (shape ls os))
 
   -- code that leads from one shape to another
   record Acc (s u : Shape) (c : List Instruction) : Type 0 where
     shapes : List Shape
     long : length shapes ≡ length c
     starts : (more : List Shape) → At more 0 u → At (shapes ++ more) 0 s
-    fine : (rest : List Instruction) (more : List Shape) → At more 0 u → IsFine (generated P) z rest more → IsFine (generated P) z (c ++ rest) (shapes ++ more)
+    fine : (rest : List Instruction) (more : List Shape) → At more 0 u → IsFine (written_body P) z rest more → IsFine (written_body P) z (c ++ rest) (shapes ++ more)
 
   abbrev seq : (s u v : Shape) (c d : List Instruction) → Acc s u c → Acc u v d → Acc s v (c ++ d)
   seq s u v c d a b = record {
@@ -33,8 +34,8 @@ module _ (P : Program) (z : Ty) where
     long = omega (arith, length-append a.shapes b.shapes, length-append c d, a.long, b.long);
     starts = λ more h. subst (λ l. At l 0 s) (sym (append_assoc a.shapes b.shapes more)) (a.starts (b.shapes ++ more) (b.starts more h));
     fine = λ rest more h f.
-        subst (λ l. IsFine (generated P) z l ((a.shapes ++ b.shapes) ++ more)) (sym (append_assoc c d rest))
-        (subst (λ l. IsFine (generated P) z (c ++ (d ++ rest)) l) (sym (append_assoc a.shapes b.shapes more)) (a.fine (d ++ rest) (b.shapes ++ more) (b.starts more h) (b.fine rest more h f)));
+        subst (λ l. IsFine (written_body P) z l ((a.shapes ++ b.shapes) ++ more)) (sym (append_assoc c d rest))
+        (subst (λ l. IsFine (written_body P) z (c ++ (d ++ rest)) l) (sym (append_assoc a.shapes b.shapes more)) (a.fine (d ++ rest) (b.shapes ++ more) (b.starts more h) (b.fine rest more h f)));
   }
 
   none : (s : Shape) → Acc s s []
@@ -78,7 +79,7 @@ module _ (P : Program) (z : Ty) where
     long : length shapes ≡ length (laid codes)
     jumps : (more : List Shape) → At more 0 (shape env (t ∷ os)) → (tag : ℕ) (ts : List Ty) → slice_get cs tag ≡ Some ts → (start : ℕ)
         → (n : ℕ) × (slice_get (places start codes) tag ≡ Some (start + n)) × At (shapes ++ more) n (shape (env ++ ts) os)
-    fine : (rest : List Instruction) (more : List Shape) → At more 0 (shape env (t ∷ os)) → IsFine (generated P) z rest more → IsFine (generated P) z (laid codes ++ rest) (shapes ++ more)
+    fine : (rest : List Instruction) (more : List Shape) → At more 0 (shape env (t ∷ os)) → IsFine (written_body P) z rest more → IsFine (written_body P) z (laid codes ++ rest) (shapes ++ more)
 
   abbrev over_arms : (env os : List Ty) (t : Ty) (cs : List (List Ty)) (codes : List (List Instruction)) → Laid env os t cs codes
       → Acc (shape env (t ∷ os)) (shape env (t ∷ os)) (Jump (length (laid codes)) ∷ laid codes)
@@ -239,11 +240,11 @@ module _ (P : Program) (z : Ty) where
           fine = D.fine;
         }
 
-module _ (P : Program) (typed : IsTyped P) where
-  pub generated_accepted : IsAccepted (generated P)
-  generated_accepted f =
+module _ (P : Program) (typed : IsWrittenWell P) where
+  pub written_accepted : IsAccepted (written_body P)
+  written_accepted f =
       let g = function_at P f in
       let u = shape g.parameters (g.result ∷ []) in
       let A = acc P g.result g.parameters g.body g.result (typed_at P typed f) [] in
-      subst (λ g. (shapes : List Shape) × IsFine (generated P) g.result g.code shapes × (slice_get shapes 0 ≡ Some (shape g.parameters []))) (sym (code_found P f))
+      subst (λ g. (shapes : List Shape) × IsFine (written_body P) g.result g.code shapes × (slice_get shapes 0 ≡ Some (shape g.parameters []))) (sym (code_found P f))
       (A.shapes ++ u ∷ [], A.fine (Return ∷ []) (u ∷ []) refl (refl, tt), A.starts (u ∷ []) refl)

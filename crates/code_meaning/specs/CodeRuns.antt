@@ -8,10 +8,11 @@ use Rattle.ideal_meaning.specs.Run.{Gives, Ends, Traps, IsOut, Overflow, DivZero
 use Rattle.ideal_meaning.specs.Ideal.{Opened, ideal_mode}
 use Rattle.ideal_meaning.specs.Headline.{call_of}
 use Rattle.ideal_meaning.specs.Examples.{operands, arms_of, values, function, program, expression_program, bool_program, spin_program}
-use Rattle.code_gen.specs.Instructions.{Instruction, PushInt, Load, Jump, Return}
-use Rattle.code_gen.specs.Code.{Body, generated}
+use Rattle.core_terms.specs.Instructions.{Instruction, PushInt, Load, Jump, Return}
+use Rattle.core_terms.specs.Bodies.{Body}
+use Rattle.code_gen.specs.Code.{generated}
 use Rattle.code_gen.specs.CodeRows.{three}
-use Rattle.code_meaning.specs.Execution.{Coded, Ran, Stuck, call_code_from}
+use Rattle.ideal_meaning.specs.Execution.{Coded, Ran, Stuck, call_code_from}
 
 -- a call of a function of a program's code, in the ideal mode
 abbrev pub called : Program → ℕ → Values → ℕ → Coded ⊥ (List Opened)

@@ -1,19 +1,19 @@
 -- In the first format no type of a program is one of arrays, or has one within.
-use Rattle.std.proofs.Common.{◌≡◌, ℕ, zero, suc, false, true, List, [], ◌∷◌, ◌++◌, map, slice_index_or, refl, sym, subst}
+use Rattle.std.proofs.Common.{◌≡◌, ℕ, zero, suc, true, List, [], ◌∷◌, ◌++◌, map, slice_index_or, subst}
 use Rattle.std.specs.List.{list_all}
-use Rattle.core_terms.specs.Types.{Ty, UnitTy, BoolTy, IntTy, TextTy, PairTy, NamedTy, AuthTy, VecTy, Table}
-use Rattle.core_terms.specs.TypeTables.{is_form_in, type_at, type_of_form, types_behind, types_of_forms}
+use Rattle.core_terms.specs.Types.{Ty, UnitTy, PairTy, AuthTy, VecTy}
+use Rattle.core_terms.specs.TypeTables.{is_form_in, type_at, type_of_form, types_behind}
 use Rattle.core_terms.specs.ProgramTrees.{table_of, types_at}
 use Rattle.core_terms.specs.ProgramTypes.{named_table, types_by_number}
 use Rattle.core_terms.specs.declared.format.Format.{Format}
-use Rattle.core_terms.specs.declared.format.Format.TheVariants.{First, Second}
+use Rattle.core_terms.specs.declared.format.Format.TheVariants.{First}
 use Rattle.core_terms.specs.declared.program_types.Types.{Types}
 use Rattle.core_terms.specs.declared.term.Constructor.{Constructor}
 use Rattle.core_terms.specs.declared.term.NamedType.{NamedType}
 use Rattle.core_terms.specs.declared.types.TyId.{TyId}
 use Rattle.core_terms.specs.declared.types.TyForm.{TyForm}
 use Rattle.core_terms.specs.declared.types.TyForm.TheVariants.{UnitForm, BoolForm, IntForm, TextForm, AuthForm, PairForm, NamedForm, VecForm}
-use Rattle.core_terms.proofs.TypingSound.{first_of, second_of}
+use Rattle.core_terms.proofs.SameTypes.{first_of, second_of}
 
 -- it holds of each of these
 abbrev pub Each : {X : Type 0} → (X → Type 0) → List X → Type 0

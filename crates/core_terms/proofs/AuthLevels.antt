@@ -19,7 +19,7 @@ use Rattle.core_terms.specs.declared.types.TyForm.{TyForm}
 use Rattle.core_terms.specs.declared.types.TyForm.TheVariants.{UnitForm, BoolForm, IntForm, TextForm, AuthForm, PairForm, NamedForm, VecForm}
 use Rattle.core_terms.specs.declared.term.Constructor.{Constructor}
 use Rattle.core_terms.specs.declared.term.NamedType.{NamedType}
-use Rattle.core_terms.proofs.TypingSound.{first_of, second_of}
+use Rattle.core_terms.proofs.SameTypes.{first_of, second_of}
 
 -- no `auth` stands in these on any level
 pub unit_has_none : (table : Table) (opened : ℕ) → false ≡ has_auth_within table opened UnitTy

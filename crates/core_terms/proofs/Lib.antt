@@ -7,7 +7,9 @@ pub mod ReadOnly
 pub mod Projection
 pub mod ReadBack
 pub mod Plain
--- the law `typing`: types, then shapes of roles
+-- the law `typing`: kinds of code, types, then shapes of roles
+pub mod SameTypes
+pub mod KindsSound
 pub mod TypingSound
 pub mod TypingComplete
 pub mod Reach
@@ -30,7 +32,8 @@ pub mod AuthLevels
 -- roles_of, and Program's role
 pub mod Places
 pub mod FoundRoles
--- Program's new and roles, then the constructor of Types
+-- Program's new, compiled and roles, then the constructor of Types
+pub mod TypeParts
 pub mod Limited
 pub mod RoleShapes
 pub mod Constructors

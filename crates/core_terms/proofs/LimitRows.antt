@@ -1,6 +1,6 @@
 -- Which values are within limits: of what is authenticated, of each of some values, and in a program's format. Which formats and names are
 -- none, and what the limits of a program come to in numbers.
-use Rattle.std.proofs.Common.{ℕ, ◌≤◌, ◌<◌, List, [], ◌∷◌, length, true, arith, None, false}
+use Rattle.std.proofs.Common.{ℕ, ◌≤◌, ◌<◌, [], ◌∷◌, length, true, arith, None, false}
 use Rattle.std.specs.Prelude.{All, pos, replicate}
 use Rattle.core_terms.specs.Types.{Table, BoolTy, IntTy, TextTy, PairTy, NamedTy, AuthTy}
 use Rattle.core_terms.specs.Formats.{Format, IsFormat, first_format}

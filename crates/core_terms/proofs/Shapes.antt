@@ -1,12 +1,12 @@
 -- The shape test and the shapes of roles.
 use Rattle.std.proofs.Common.{◌≡◌, ℕ, zero, suc, Bool, true, false, not, List, [], ◌∷◌, Some, slice_get, refl, sym, ap, ◌∙◌, subst}
-use Rattle.core_terms.specs.Types.{Ty, UnitTy, PairTy}
+use Rattle.core_terms.specs.Types.{Ty, UnitTy, PairTy, same_type}
 use Rattle.core_terms.specs.Terms.{Kind, Inner, Init, Query, Update, Function, Program}
 use Rattle.core_terms.specs.Roles.{has_auth, is_entered, IsPlain, IsRole, role_parameters, role_result}
-use Rattle.core_terms.specs.Typing.{same_type, shape_test, all_shaped, is_shaped}
+use Rattle.core_terms.specs.Typing.{shape_test, all_shaped, is_shaped}
 use Rattle.core_terms.proofs.Reach.{plain_by_test}
 use Rattle.core_terms.proofs.TypingComplete.{both, same_self}
-use Rattle.core_terms.proofs.TypingSound.{first_of, second_of, same_sound}
+use Rattle.core_terms.proofs.SameTypes.{first_of, second_of, same_sound}
 
 -- a function's shape, apart from where it stands
 record HasShape (P : Program) (kind : Kind) (parameters : List Ty) (result : Ty) : Type 0 where

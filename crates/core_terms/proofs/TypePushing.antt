@@ -16,7 +16,7 @@ use Rattle.core_terms.specs.TypeTables.{type_of_form, types_behind, types_of_for
 use Rattle.core_terms.specs.declared.types.TyForm.{TyForm}
 use Rattle.core_terms.specs.declared.types.TyForm.TheVariants.{UnitForm, BoolForm, IntForm, TextForm, AuthForm, PairForm, NamedForm, VecForm}
 use Rattle.core_terms.proofs.TypeTables.{length-types_behind, form_means, more_parts}
-use Rattle.core_terms.proofs.TypingSound.{first_of, second_of}
+use Rattle.core_terms.proofs.SameTypes.{first_of, second_of}
 use Rattle.core_terms.proofs.TypingComplete.{both}
 
 no_truth : false ≡ true → ⊥

@@ -1,16 +1,14 @@
 -- The printed declarations, one after another.
-use Rattle.std.proofs.Common.{◌≡◌, ℕ, suc, ◌+◌, ◌<◌, ◌≤◌, List, [], ◌∷◌, ◌++◌, length, map, drop, slice_index_or, refl, sym, ap, ◌∙◌, append_assoc, append-nil, arith}
+use Rattle.std.proofs.Common.{◌≡◌, ℕ, ◌+◌, ◌<◌, ◌≤◌, List, [], ◌∷◌, ◌++◌, length, map, drop, slice_index_or, refl, sym, ap, ◌∙◌, append_assoc, append-nil}
 use Rattle.std.specs.Prelude.{codes}
 use Rattle.std.proofs.lemmas.List.{at_drop_more, at_drop_all}
 use Rattle.core_terms.specs.Types.{Ty}
-use Rattle.core_terms.specs.TypeDeclarations.{constructors_text, declarations_text, row_text, type_text}
+use Rattle.core_terms.specs.TypeDeclarations.{constructors_text, declarations_text}
 use Rattle.core_terms.specs.TypeNames.{all_constructor_names, type_names}
-use Rattle.core_terms.specs.TypeTables.{type_at}
-use Rattle.core_terms.specs.TypeTexts.{named_text, named_texts, of_constructors}
+use Rattle.core_terms.specs.TypeTexts.{named_texts, of_constructors}
 use Rattle.core_terms.specs.ProgramTrees.{declared_text, table_of, types_at}
 use Rattle.core_terms.specs.declared.term.Constructor.{Constructor}
 use Rattle.core_terms.specs.declared.term.NamedType.{NamedType}
-use Rattle.core_terms.specs.declared.types.TyId.{TyId}
 
 module _ (names : List (List ℕ)) (types : List Ty) where
   constructors_same : (mark : List ℕ) (cs : List Constructor)

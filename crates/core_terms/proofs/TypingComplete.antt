@@ -1,9 +1,9 @@
 -- Where the typing rules hold, the typing test says yes.
 use Rattle.std.proofs.Common.{◌≡◌, ℕ, suc, Bool, true, false, ◌&&◌, List, [], ◌∷◌, ◌++◌, length, Option, Some, None, slice_get, unwrap_or, refl, sym, subst, eq-eqb, le-leb}
 use Rattle.std.proofs.lemmas.Str.{is_utf8-from_IsUtf8}
-use Rattle.core_terms.specs.Types.{Ty, UnitTy, BoolTy, IntTy, TextTy, PairTy, NamedTy, AuthTy, VecTy, fields_at, OnFields}
-use Rattle.core_terms.specs.Terms.{Expression, UnitE, BoolE, IntE, TextE, LocalE, PairE, FstE, SndE, NotE, LenE, AuthE, UnauthE, ConE, ArithE, CompareE, TextCompareE, CatE, LetE, IfE, MatchE, CallE, OperateE, operand_types, result_type, Expressions, NoE, AndE, Arms, NoArm, AndArm, Program, Function, OnFunction, HasType, HaveTypes, HaveArms, IsTyped}
-use Rattle.core_terms.specs.Typing.{same_type, is_at, fields_test, function_test, has_type, have_types, have_arms, all_typed, is_typed}
+use Rattle.core_terms.specs.Types.{Ty, UnitTy, BoolTy, IntTy, TextTy, PairTy, NamedTy, AuthTy, VecTy, fields_at, OnFields, same_type}
+use Rattle.core_terms.specs.Terms.{Expression, UnitE, BoolE, IntE, TextE, LocalE, PairE, FstE, SndE, NotE, LenE, AuthE, UnauthE, ConE, ArithE, CompareE, TextCompareE, CatE, LetE, IfE, MatchE, CallE, OperateE, operand_types, result_type, Expressions, NoE, AndE, Arms, NoArm, AndArm, Program, Function, OnFunction, HasType, HaveTypes, HaveArms, IsTypedAs, IsTyped}
+use Rattle.core_terms.specs.Typing.{is_at, fields_test, function_test, has_type, have_types, have_arms, all_typed, is_typed_as, is_typed}
 
 pub both : (a b : Bool) → a ≡ true → b ≡ true → a && b ≡ true
 both true b h j = j
@@ -79,5 +79,6 @@ module _ (P : Program) where
   functions_complete [] h = refl
   functions_complete (g ∷ gs) h = both _ _ (type_complete g.parameters g.body g.result (h 0 g refl)) (functions_complete gs (λ f. h (suc f)))
 
-  pub typed_complete : IsTyped P → is_typed P ≡ true
-  typed_complete h = functions_complete P.functions h
+  pub typed_complete : P.code ≡ None → IsTyped P → is_typed P ≡ true
+  typed_complete written h =
+      subst (λ o. is_typed_as P o ≡ true) (sym written) (functions_complete P.functions (subst (IsTypedAs P) written h))

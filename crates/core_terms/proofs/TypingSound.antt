@@ -1,29 +1,13 @@
 -- Where the typing test says yes, the typing rules hold.
-use Rattle.std.proofs.Common.{◌≡◌, ℕ, zero, suc, Bool, true, false, ◌&&◌, List, [], ◌∷◌, ◌++◌, Option, Some, None, slice_get, unwrap_or, refl, ap, ap₂, subst, eqb-true, leb-true, nat_eq}
+use Rattle.std.proofs.Common.{◌≡◌, ℕ, zero, suc, Bool, true, ◌&&◌, List, [], ◌∷◌, ◌++◌, length, Option, Some, None, slice_get, unwrap_or, ap, subst, eqb-true, leb-true, nat_eq}
 use Rattle.std.specs.Str.{is_utf8}
 use Rattle.std.proofs.lemmas.Str.{IsUtf8-from_is_utf8}
-use Rattle.core_terms.specs.Types.{Ty, UnitTy, BoolTy, IntTy, TextTy, PairTy, NamedTy, AuthTy, VecTy, fields_at, OnFields}
-use Rattle.core_terms.specs.Terms.{Expression, UnitE, BoolE, IntE, TextE, LocalE, PairE, FstE, SndE, NotE, LenE, AuthE, UnauthE, ConE, ArithE, CompareE, TextCompareE, CatE, LetE, IfE, MatchE, CallE, OperateE, operand_types, result_type, is_operation, Expressions, NoE, AndE, Arms, NoArm, AndArm, Program, Function, OnFunction, HasType, HaveTypes, HaveArms, IsTyped}
-use Rattle.core_terms.specs.Typing.{same_type, is_at, fields_test, function_test, has_type, have_types, have_arms, all_typed, is_typed}
-
-pub first_of : (a b : Bool) → a && b ≡ true → a ≡ true
-first_of true b e = refl
-first_of false b e = cc
-
-pub second_of : (a b : Bool) → a && b ≡ true → b ≡ true
-second_of true b e = e
-second_of false b e = cc
-
-pub same_sound : (a b : Ty) → same_type a b ≡ true → a ≡ b
-same_sound UnitTy UnitTy e = refl
-same_sound BoolTy BoolTy e = refl
-same_sound IntTy IntTy e = refl
-same_sound TextTy TextTy e = refl
-same_sound (PairTy a b) (PairTy c d) e = ap₂ PairTy (same_sound a c (first_of _ _ e)) (same_sound b d (second_of (same_type a c) _ e))
-same_sound (NamedTy m) (NamedTy n) e = ap NamedTy (eqb-true m n e)
-same_sound (AuthTy a) (AuthTy b) e = ap AuthTy (same_sound a b e)
-same_sound (VecTy m a) (VecTy n b) e = ap₂ VecTy (eqb-true m n (first_of _ _ e)) (same_sound a b (second_of (nat_eq m n) _ e))
-same_sound a b e = cc
+use Rattle.core_terms.specs.Types.{Ty, UnitTy, BoolTy, IntTy, TextTy, PairTy, NamedTy, AuthTy, fields_at, OnFields, same_type}
+use Rattle.core_terms.specs.Terms.{Expression, UnitE, BoolE, IntE, TextE, LocalE, PairE, FstE, SndE, NotE, LenE, AuthE, UnauthE, ConE, ArithE, CompareE, TextCompareE, CatE, LetE, IfE, MatchE, CallE, OperateE, operand_types, result_type, is_operation, Expressions, NoE, AndE, Arms, NoArm, AndArm, Program, Function, OnFunction, HasType, HaveTypes, HaveArms, body_of, IsTypedAs, IsTyped}
+use Rattle.core_terms.specs.Instructions.{Instruction}
+use Rattle.core_terms.specs.Typing.{is_at, fields_test, function_test, has_type, have_types, have_arms, all_typed, is_typed_as, is_typed}
+use Rattle.core_terms.proofs.SameTypes.{first_of, second_of, same_sound}
+use Rattle.core_terms.proofs.KindsSound.{kinds_sound}
 
 at_sound : (o : Option Ty) (t : Ty) → is_at o t ≡ true → o ≡ Some t
 at_sound (Some a) t e = ap Some (same_sound a t e)
@@ -101,5 +85,10 @@ module _ (P : Program) where
       subst T same (type_sound g.parameters g.body g.result (first_of _ _ e))
   funs_sound (g ∷ gs) e (suc f) g' at = funs_sound gs (second_of (has_type P g.parameters g.body g.result) _ e) f g' at
 
+  typed_as_sound : (o : Option (List (List Instruction))) → is_typed_as P o ≡ true → IsTypedAs P o
+  typed_as_sound None e = funs_sound P.functions e
+  typed_as_sound (Some codes) e =
+      record { each = eqb-true _ _ (first_of _ _ e); accepted = kinds_sound (body_of P codes) (second_of (nat_eq (length codes) (length P.functions)) _ e) }
+
   pub typed_sound : is_typed P ≡ true → IsTyped P
-  typed_sound e = funs_sound P.functions e
+  typed_sound e = typed_as_sound P.code e

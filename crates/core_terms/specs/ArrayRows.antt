@@ -1,11 +1,10 @@
 -- Arrays: their types, sizes, depths, spellings, readings and typing rules. Each equation holds by computing both sides.
-use Rattle.std.specs.Prelude.{◌≡◌, ℕ, zero, suc, List, [], ◌∷◌, ◌++◌, pos, true, false, replicate, refl}
-use Rattle.core_terms.specs.Types.{Ty, UnitTy, BoolTy, IntTy, TextTy, PairTy, NamedTy, AuthTy, VecTy, is_length}
-use Rattle.core_terms.specs.Values.{Value, UnitV, BoolV, IntV, PairV, DigestV, ItemsV, Values, NoV, AndV, size, depth, IsIdeal, IsShallow}
+use Rattle.std.specs.Prelude.{◌≡◌, ℕ, zero, suc, [], ◌∷◌, ◌++◌, pos, true, false, replicate, refl}
+use Rattle.core_terms.specs.Types.{Ty, UnitTy, BoolTy, IntTy, TextTy, PairTy, AuthTy, VecTy, is_length, same_type}
+use Rattle.core_terms.specs.Values.{Value, UnitV, BoolV, IntV, PairV, ItemsV, NoV, AndV, size, depth, IsIdeal, IsShallow}
 use Rattle.core_terms.specs.Spelling.{spelling, shallow}
 use Rattle.core_terms.specs.Reading.{Good, BadAt, read}
-use Rattle.core_terms.specs.Terms.{Expression, BoolE, IntE, LocalE, OperateE, VecFill, VecGet, VecPut, NoE, AndE}
-use Rattle.core_terms.specs.Typing.{same_type}
+use Rattle.core_terms.specs.Terms.{Expression, LocalE, OperateE, VecFill, VecGet, VecPut, NoE, AndE}
 use Rattle.core_terms.specs.ProgramLimits.{expressions_in, levels_of, levels_of_type}
 use Rattle.core_terms.specs.ValueRows.{marks}
 use Rattle.core_terms.specs.TypingRows.{takes}

@@ -34,7 +34,7 @@ abbrev pub other_format : Format
 other_format = record { digest = tagged; print = λ hash t. None; limit = 9; magic = []; image_magic = []; most_kept = 0; arrays = false }
 
 abbrev pub other_program : Program
-other_program = record { format = other_format; types = two_types; state = UnitTy; functions = [] }
+other_program = record { format = other_format; types = two_types; state = UnitTy; functions = []; code = None }
 
 pub digest_of_the_format : (hash : Hash) → digest_at hash other_program (AuthTy IntTy) (7 ∷ []) ≡ 1 ∷ hash (7 ∷ [])
 digest_of_the_format hash = refl

@@ -1,5 +1,5 @@
 -- The laws of spelling, projection and typing: what a reader may hold the definitions to.
-use Rattle.std.specs.Prelude.{◌≡◌, ◌⊎◌, ◌↔◌, ◌<◌, ◌^◌, ℕ, true, List, [], ◌++◌, length, Some, slice_get}
+use Rattle.std.specs.Prelude.{◌≡◌, ◌⊎◌, ◌↔◌, ◌<◌, ◌^◌, ℕ, true, List, [], ◌++◌, length, Some, None, slice_get}
 use Rattle.core_terms.specs.Types.{Ty, Table}
 use Rattle.core_terms.specs.Formats.{IsFormat, first_format, second_format}
 use Rattle.core_terms.specs.Values.{Value, IsIdeal, IsShallow, IsWithin, size, depth}
@@ -57,9 +57,10 @@ abbrev pub PlainIsOwnProjection : Type 0
 PlainIsOwnProjection = (digest : Ty → List ℕ → List ℕ) (types : Table) (t : Ty) (v : Value)
     → IsPlain types t → IsIdeal types t v → shallow digest types t v ≡ v
 
--- The typing test says yes exactly where the typing rules hold.
+-- The typing test says yes exactly where the typing rules hold of a written program. Of a compiled one it says more than that its code is
+-- accepted: each instruction is also led to, and no place has more locals than there may be.
 abbrev pub TypingTestIsExact : Type 0
-TypingTestIsExact = (P : Program) → (is_typed P ≡ true) ↔ IsTyped P
+TypingTestIsExact = (P : Program) → (is_typed P ≡ true → IsTyped P) × (P.code ≡ None → IsTyped P → is_typed P ≡ true)
 
 -- The shape test says yes exactly where each function that can be entered from outside is a role of its kind.
 abbrev pub ShapeTestIsExact : Type 0

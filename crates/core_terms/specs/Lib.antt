@@ -3,9 +3,13 @@ pub mod Formats
 pub mod Values
 pub mod Spelling
 pub mod Reading
+pub mod Instructions
+pub mod Bodies
+pub mod Accepted
 pub mod Terms
 pub mod Roles
 pub mod Projection
+pub mod Kinds
 pub mod Typing
 pub mod TypeTables
 pub mod TypeDeclarations
@@ -16,6 +20,8 @@ pub mod ProgramTrees
 pub mod ProgramTypes
 pub mod ProgramLimits
 pub mod TypeNames
+pub mod InstructionViews
+pub mod ProgramParts
 pub mod Programs
 pub mod TypeTexts
 pub mod Fronts

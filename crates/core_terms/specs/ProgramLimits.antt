@@ -1,6 +1,7 @@
 -- The limits of a program: how many named types, constructors, fields, functions, parameters, locals and expressions it has, how
 -- long its names are, and how far its types and expressions are nested.
-use Rattle.std.specs.Prelude.{ℕ, suc, ◌+◌, ◌≤◌, max, List, [], ◌∷◌, length, slice_get, unwrap_or, All}
+use Rattle.core_terms.specs.Instructions.{Instruction}
+use Rattle.std.specs.Prelude.{Option, ℕ, suc, ◌+◌, ◌≤◌, max, List, [], ◌∷◌, length, slice_get, unwrap_or, All}
 pub use Rattle.core_terms.specs.Names.{IsName, longest_name}
 use Rattle.core_terms.specs.Types.{Ty, PairTy, AuthTy, VecTy, Table}
 use Rattle.core_terms.specs.Terms.{Expression, PairE, FstE, SndE, NotE, LenE, AuthE, UnauthE, ConE, ArithE, CompareE, TextCompareE, CatE, LetE, IfE, MatchE, CallE, OperateE, Expressions, NoE, AndE, Arms, NoArm, AndArm, Function, Program}
@@ -160,3 +161,14 @@ pub record IsWithinLimits (P : Program) : Type 0 where
   pub functions : length P.functions ≤ most_functions
   pub each : All (IsFunctionWithin P.types) P.functions
   pub expressions : expressions_in_all P.functions ≤ most_expressions
+
+-- the number of instructions of functions, and how many there may be in all the code of a program
+abbrev pub instructions_in_all : List (List Instruction) → ℕ
+instructions_in_all [] = 0
+instructions_in_all (code ∷ codes) = length code + instructions_in_all codes
+
+abbrev pub most_instructions : ℕ
+most_instructions = 4194304
+
+abbrev pub IsShort : Option (List (List Instruction)) → Type 0
+IsShort code = instructions_in_all (unwrap_or code []) ≤ most_instructions

@@ -1,5 +1,5 @@
 -- The program of the definitions that a table of types, named types and functions stand for.
-use Rattle.std.specs.Prelude.{ℕ, Bool, ◌&&◌, List, [], ◌∷◌, length, map, nat_lt}
+use Rattle.std.specs.Prelude.{ℕ, Bool, ◌&&◌, List, [], ◌∷◌, length, map, nat_lt, None}
 use Rattle.std.specs.List.{list_all}
 use Rattle.core_terms.specs.Types.{Ty, Table}
 use Rattle.core_terms.specs.ProgramFormats.{format_with}
@@ -129,4 +129,5 @@ program_of format forms named state functions =
       types = table_of types named;
       state = type_at types state;
       functions = map (function_of types) functions;
+      code = None;
     }

@@ -20,6 +20,7 @@ five = record {
       ∷ declared (codes "ask") Query (BoolTy ∷ TextTy ∷ []) UnitTy
       ∷ declared (codes "put") Update (BoolTy ∷ UnitTy ∷ []) (PairTy BoolTy IntTy)
       ∷ [];
+  code = None;
 }
 
 -- in the order of declarations, each with the number of its function, its kind, what its caller passes and what its function gives

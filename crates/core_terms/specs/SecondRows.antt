@@ -1,6 +1,6 @@
 -- The second format: fingerprints, digests, and how type declarations are printed. Each row holds by computing.
 use Rattle.std.specs.Prelude.{◌≡◌, ℕ, List, [], ◌∷◌, ◌++◌, codes, refl}
-use Rattle.core_terms.specs.Types.{Ty, UnitTy, BoolTy, IntTy, TextTy, PairTy, NamedTy, AuthTy, VecTy}
+use Rattle.core_terms.specs.Types.{UnitTy, BoolTy, IntTy, TextTy, PairTy, NamedTy, AuthTy, VecTy}
 use Rattle.core_terms.specs.Formats.{Hash, fingerprint, second_format}
 use Rattle.core_terms.specs.TypeDeclarations.{type_text, types_text}
 

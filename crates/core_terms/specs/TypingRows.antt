@@ -1,5 +1,5 @@
 -- Expressions that the typing rules take, and such that they don't. Each equation holds by computing both sides.
-use Rattle.std.specs.Prelude.{◌≡◌, List, [], ◌∷◌, Bool, true, false, pos, negsuc, replicate, refl}
+use Rattle.std.specs.Prelude.{◌≡◌, List, [], ◌∷◌, Bool, true, false, pos, negsuc, replicate, refl, None}
 use Rattle.std.specs.Str.{is_utf8, chars}
 use lib.Utf8.{encode}
 use Rattle.core_terms.specs.Types.{Ty, UnitTy, BoolTy, IntTy, TextTy, PairTy, NamedTy, AuthTy}
@@ -17,6 +17,7 @@ small = record {
   types = ([] ∷ (IntTy ∷ TextTy ∷ []) ∷ []) ∷ [];
   state = AuthTy IntTy;
   functions = record { name = []; kind = Inner; parameters = IntTy ∷ BoolTy ∷ []; result = TextTy; body = TextE [] } ∷ [];
+  code = None;
 }
 
 -- where the locals are an int, a bool, a text, a pair of an int and a text, an authenticated int, and a value of the named type
@@ -174,7 +175,7 @@ no_such_function = refl
 
 -- each body counts, not only the first
 abbrev pub with_function : Function → Program
-with_function g = record { format = first_format 0; types = []; state = AuthTy IntTy; functions = record { name = []; kind = Inner; parameters = IntTy ∷ []; result = IntTy; body = LocalE 0 } ∷ g ∷ [] }
+with_function g = record { format = first_format 0; types = []; state = AuthTy IntTy; functions = record { name = []; kind = Inner; parameters = IntTy ∷ []; result = IntTy; body = LocalE 0 } ∷ g ∷ []; code = None }
 
 pub second_body_is_typed : is_typed (with_function (record { name = []; kind = Inner; parameters = []; result = BoolTy; body = UnitE })) ≡ false
 second_body_is_typed = refl

@@ -5,8 +5,10 @@ ghost use Rattle.std.proofs.Props.{props};
 ghost use Rattle.core_terms.specs.TypeNames.{AreNamed};
 ghost use Rattle.core_terms.specs.ProgramTrees.{function_of, has_fields_below, has_types_below, is_within, program_of, types_at};
 ghost use Rattle.core_terms.specs.TypeTables.{HasNoNumber, stands_behind, type_at, type_of_form};
-ghost use Rattle.core_terms.specs.ProgramLimits.{IsWithinLimits};
-ghost use Rattle.core_terms.specs.ProgramTypes.{program_with, types_by_number};
+ghost use Rattle.core_terms.specs.InstructionViews.{codes_meant, instructions_of};
+ghost use Rattle.core_terms.specs.ProgramLimits.{IsShort, IsWithinLimits};
+ghost use Rattle.core_terms.specs.ProgramParts.{compiled_program, program_of_parts};
+ghost use Rattle.core_terms.specs.ProgramTypes.{types_by_number};
 ghost use Rattle.core_terms.specs.RoleViews.{has_role_below, role_of};
 ghost use Rattle.core_terms.specs.Roles.{HasRoleShape, has_auth, role_function, role_named, program_roles, roles_set};
 ghost use Rattle.core_terms.specs.Terms.{function_at, kinds_set};
@@ -15,7 +17,8 @@ ghost use Rattle.core_terms.specs.Typing.{is_shaped, is_typed};
 
 use crate::roles::{place_of, roles_of};
 use crate::{
-    Digest, Format, Function, NamedId, NamedType, Role, RoleId, Tag, TyForm, TyId, TyTable, Types,
+    Digest, Format, Function, Instruction, NamedId, NamedType, Role, RoleId, Tag, TyForm, TyId,
+    TyTable, Types,
 };
 use std::alloc::{AllocError, Global};
 
@@ -23,19 +26,21 @@ use std::alloc::{AllocError, Global};
 #[derive(Clone, Copy)]
 pub struct FunctionId(pub usize);
 
-/// A program: its types and its functions. It is well-typed and within the limits of a program, its roles have their shapes, and
-/// the types of its parameters and results are in its table.
+/// A program: its types and its functions, which are written, or compiled to code. It is well-typed and within the limits of a
+/// program, its roles have their shapes, and the types of its parameters and results are in its table.
 #[derive(Drop)]
 pub struct Program {
     types: Types,
     functions: Vec<Function>,
+    code: Option<Vec<Vec<Instruction>>>,
     text_digest: Digest,
     roles: Vec<Role>,
-    ghost found: { map (role_of (types_by_number types)) roles.items ≡ program_roles (program_with types functions.items) } by { Prim.hlevel (props, types_set, kinds_set, roles_set) },
-    ghost typed: { is_typed (program_with types functions.items) ≡ true },
-    ghost shaped: { is_shaped (program_with types functions.items) ≡ true },
-    ghost limits: { IsWithinLimits (program_with types functions.items) } by { Prim.hlevel props },
+    ghost found: { map (role_of (types_by_number types)) roles.items ≡ program_roles (program_of_parts types functions.items code) } by { Prim.hlevel (props, types_set, kinds_set, roles_set) },
+    ghost typed: { is_typed (program_of_parts types functions.items code) ≡ true },
+    ghost shaped: { is_shaped (program_of_parts types functions.items code) ≡ true },
+    ghost limits: { IsWithinLimits (program_of_parts types functions.items code) } by { Prim.hlevel props },
     ghost within: { list_all (has_types_below (length (types_by_number types))) functions.items ≡ true },
+    ghost short: { IsShort (codes_meant (types_by_number types) code) } by { Prim.hlevel props },
     ghost roles_within: { list_all (has_role_below (length (types_by_number types))) roles.items ≡ true },
 }
 
@@ -70,9 +75,56 @@ impl Program {
         Ok(Program {
             types,
             functions,
+            code: None,
             text_digest,
             roles,
         })
+    }
+
+    /// A program that is compiled to this code, by function. Of its functions no body is asked for. `digest` is that of the bytes that
+    /// it was read from.
+    ///
+    /// # Errors
+    ///
+    /// `AllocError` where there is no memory for the marks of the types or for the roles.
+    pub fn compiled(
+        types: TyTable,
+        named: Vec<NamedType>,
+        state: TyId,
+        functions: Vec<Function>,
+        code: Vec<Vec<Instruction>>,
+        digest: Digest,
+        alloc: Global,
+    ) -> Result<Self, AllocError>
+        requires typed { is_typed (compiled_program types named.items state functions.items code.items) ≡ true }
+        requires shaped { is_shaped (compiled_program types named.items state functions.items code.items) ≡ true }
+        requires within { is_within types.forms.keys named.items state functions.items ≡ true }
+        requires names { AreNamed named.items }
+        requires limits { IsWithinLimits (compiled_program types named.items state functions.items code.items) }
+        requires short { IsShort (compiled_program types named.items state functions.items code.items).code }
+        ensures meaning { IfOk result (λ program. meaning program ≡ compiled_program types named.items state functions.items code.items) }
+        ensures named { IfOk result (λ program. program.types.named.items ≡ named.items) }
+        ensures digest { IfOk result (λ program. program.text_digest ≡ digest) }
+    {
+        let types = Types::new(types, named, state, alloc)?;
+        let roles = roles_of(&functions, alloc)?;
+        Ok(Program {
+            types,
+            functions,
+            code: Some(code),
+            text_digest: digest,
+            roles,
+        })
+    }
+
+    /// The code by function, where the program is compiled.
+    pub fn code(&self) -> Option<&[Vec<Instruction>]>
+        ensures { option_map (λ code. map (λ c. instructions_of (types_of self.now) c.items) code.now) result ≡ (meaning self.now).code }
+    {
+        match &self.code {
+            Some(code) => Some(code),
+            None => None,
+        }
     }
 
     /// The types.

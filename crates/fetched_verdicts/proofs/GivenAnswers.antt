@@ -8,13 +8,15 @@ use Rattle.core_terms.specs.Reading.{Read, Good, BadAt}
 use Rattle.core_terms.specs.Terms.{Program}
 use Rattle.core_terms.specs.Values.{Value, Values, NoV, AndV}
 use Rattle.ideal_meaning.specs.Run.{Stop, Traps, IsOut, Rejects, Gives, Ends, then_run, with_fuel, Refuses}
+use Rattle.ideal_meaning.specs.Execution.{Ran, Stuck, then_code, then_coded}
+use Rattle.ideal_meaning.specs.Called.{ran}
 use Rattle.ideal_meaning.specs.Checked.{Cause, Taking, Verdict, BadState, BadArgument, Rejected, Accepted, WrongPiece, BadPiece, Missing, Broken, cause_of, checked_mode_as, digest_in, opened, take_as}
 use Rattle.ideal_meaning.specs.Fetched.{Got, IsPiece, IsLack, IsBroken, Answered, Gave, GaveLast, HasDigest, IsStore, answered, asking, ended, fetched, from_argument, from_state, verdict_from}
 use Rattle.ideal_meaning.specs.Frames.{End, Lacks, Breaks, NoByte, IsCut, KindIs, LongBy, UseIs, Offer, NoMore, Offers}
 use Rattle.ideal_meaning.specs.PieceForms.{as_whole}
 use Rattle.ideal_meaning.specs.Wire.{Wire}
 use Rattle.fetched_verdicts.specs.Verdicts.{mode_over, over_argument, over_state, run_over, verdict_over}
-use Rattle.fetched_verdicts.proofs.SameRuns.{RunOf, same_calls}
+use Rattle.fetched_verdicts.proofs.SameRuns.{RunOf, CodeOf, same_calls_from}
 
 not_both : {b : Bool} → b ≡ true → b ≡ false → ⊥
 not_both on off = absurd (cc)
@@ -54,6 +56,31 @@ module _ (hash : Hash) (P : Program) (get : List ℕ → Got) (store : IsStore h
       → ((a : A) (k : ℕ) (w s : Taking) → Fits w s → Follows B (next a k w) (next' a k s)) → Follows B (then_run first next) (then_run other next')
   then_follows A B (Gives a k w) other next next' (s, is, fits) h = subst (λ o. Follows B (next a k w) (then_run o next')) (sym is) (h a k w s fits)
   then_follows A B (Ends stop k w) other next next' f h = λ so. let e = f so in (e.0, e.1, ap (λ o. then_run o next') e.2)
+
+  -- the same of code, which may be stuck in both
+  abbrev FollowsCode : CodeOf → CodeOf → Type 0
+  FollowsCode (Ran (Gives v k w)) other = (s : Taking) × (other ≡ Ran (Gives v k s)) × Fits w s
+  FollowsCode (Ran (Ends stop k w)) other = IsSo stop → (k' : ℕ) × (s : Taking) × (other ≡ Ran (Ends stop k' s))
+  FollowsCode Stuck other = other ≡ Stuck
+
+  abbrev ClaimCode : Taking → (Taking → CodeOf) → CodeOf → Type 0
+  ClaimCode s first other = (w : Taking) → Fits w s → FollowsCode (first w) other
+
+  code_follows : (first other : RunOf Value) (next next' : Value → ℕ → Taking → CodeOf) → Follows Value first other
+      → ((v : Value) (k : ℕ) (w s : Taking) → Fits w s → FollowsCode (next v k w) (next' v k s)) → FollowsCode (then_code first next) (then_code other next')
+  code_follows (Gives v k w) other next next' (s, is, fits) h = subst (λ o. FollowsCode (next v k w) (then_code o next')) (sym is) (h v k w s fits)
+  code_follows (Ends stop k w) other next next' f h = λ so. let e = f so in (e.0, e.1, ap (λ o. then_code o next') e.2)
+
+  coded_follows : (first other : CodeOf) (next next' : Value → ℕ → Taking → CodeOf) → FollowsCode first other
+      → ((v : Value) (k : ℕ) (w s : Taking) → Fits w s → FollowsCode (next v k w) (next' v k s)) → FollowsCode (then_coded first next) (then_coded other next')
+  coded_follows (Ran (Gives v k w)) other next next' (s, is, fits) h = subst (λ o. FollowsCode (next v k w) (then_coded o next')) (sym is) (h v k w s fits)
+  coded_follows (Ran (Ends stop k w)) other next next' f h = λ so. let e = f so in (e.0, e.1, ap (λ o. then_coded o next') e.2)
+  coded_follows Stuck other next next' is h = ap (λ o. then_coded o next') is
+
+  run_follows : (k : ℕ) (w s : Taking) (first other : CodeOf) → FollowsCode first other → Fits w s → Follows Value (ran k w first) (ran k s other)
+  run_follows k w s (Ran (Gives v l u)) other (t, is, fits) h = (t, ap (ran k s) is, fits)
+  run_follows k w s (Ran (Ends stop l u)) other f h = λ so. let e = f so in (e.0, e.1, ap (ran k s) e.2)
+  run_follows k w s Stuck other is h = λ so. (k, s, ap (ran k s) is)
 
   -- pieces that are offered
   module _ (wrong : NoneWrong) (t : Ty) (v : Value) (k : ℕ) where
@@ -95,8 +122,12 @@ module _ (hash : Hash) (P : Program) (get : List ℕ → Got) (store : IsStore h
 
   follows_calls : NoneWrong → (f : ℕ) (args : Values) (k : ℕ) (w : Taking) → Fits w (asking []) → Follows Value (fetched hash P f args k w) (run_over hash P get f args k)
   follows_calls wrong f args k w fits =
-      same_calls hash P get Claim (λ A a k s w fits. (s, refl, fits)) (λ A trap k s w fits so. (k, s, refl)) (λ A k s w fits so. (k, s, refl))
-      (λ A B s first other next next' h j w fits. then_follows A B (first w) other next next' (h w fits) (λ a k w s fits. j a k s w fits)) (λ t v k s. opens wrong t v k s) k f args k (asking []) w fits
+      same_calls_from hash P get Claim (λ A a k s w fits. (s, refl, fits)) (λ A trap k s w fits so. (k, s, refl)) (λ A k s w fits so. (k, s, refl))
+      (λ A B s first other next next' h j w fits. then_follows A B (first w) other next next' (h w fits) (λ a k w s fits. j a k s w fits)) (λ t v k s. opens wrong t v k s)
+      ClaimCode (λ s w fits. refl) (λ v k s w fits. (s, refl, fits)) (λ k s w fits so. (k, s, refl))
+      (λ s first other next next' h j w fits. code_follows (first w) other next next' (h w fits) (λ v k w s fits. j v k s w fits))
+      (λ s first other next next' h j w fits. coded_follows (first w) other next next' (h w fits) (λ v k w s fits. j v k s w fits))
+      f args k (λ codes is s h w fits. run_follows k w s _ _ (h w fits) fits) (asking []) w fits
 
   -- what ended so has the verdict
   same_end : (first other : RunOf Value) → Follows Value first other → ended first ≡ verdict → ended other ≡ verdict

@@ -1,25 +1,30 @@
 -- The run of a call in two verifiers: the checked one over answers that are given before, and the one over a store. Whatever is claimed of
--- both, where it holds of each step by which a run goes on, holds of their runs: by induction on the expression, where it holds of the calls
--- in it.
-use Rattle.std.proofs.Common.{ℕ, zero, suc, Bool, true, false, not, List, ◌++◌, length, ℤ, pos, negsuc, ◌+ℤ◌, ◌-ℤ◌, ◌*ℤ◌, int_div, int_rem, nat_lt, if◌then◌else◌}
+-- both, where it holds of each step by which a run goes on, holds of their runs: by induction on the expression or on the code, where it holds
+-- of the calls in it.
+use Rattle.std.proofs.Common.{◌≡◌, ℕ, zero, suc, Bool, true, false, not, List, [], ◌++◌, Option, Some, None, refl, length, ℤ, pos, negsuc, ◌+ℤ◌, ◌-ℤ◌, ◌*ℤ◌, int_div, int_rem, nat_lt, if◌then◌else◌}
 use Rattle.core_terms.specs.Types.{Ty, Table, TextTy, PairTy, NamedTy, VecTy}
 use Rattle.core_terms.specs.Formats.{Hash, depth_limit}
 use Rattle.core_terms.specs.Values.{Value, UnitV, BoolV, IntV, TextV, PairV, ConV, ItemsV, Values, NoV, AndV, int_fits, size, depth}
-use Rattle.core_terms.specs.Terms.{Expression, UnitE, BoolE, IntE, TextE, LocalE, PairE, FstE, SndE, NotE, LenE, AuthE, UnauthE, ConE, ArithE, CompareE, TextCompareE, CatE, LetE, IfE, MatchE, CallE, OperateE, Operation, VecFill, VecGet, VecPut, Expressions, NoE, AndE, Arms, NoArm, AndArm, Program, function_at}
+use Rattle.core_terms.specs.Terms.{Expression, UnitE, BoolE, IntE, TextE, LocalE, PairE, FstE, SndE, NotE, LenE, AuthE, UnauthE, ConE, ArithE, CompareE, TextCompareE, CatE, LetE, IfE, MatchE, CallE, OperateE, Operation, VecFill, VecGet, VecPut, Expressions, NoE, AndE, Arms, NoArm, AndArm, Program, body_of, function_at}
+use Rattle.core_terms.specs.Instructions.{Instruction}
+use Rattle.core_terms.specs.Bodies.{Body, code_at}
 use Rattle.core_terms.specs.declared.term.Arith.{Arith}
 use Rattle.core_terms.specs.declared.term.Arith.TheVariants.{Add, Sub, Mul, Div, Rem}
 use Rattle.ideal_meaning.specs.Run.{Trap, Overflow, DivZero, TooBig, TooDeep, Index, Traps, IsOut, Run, Gives, Ends, then_run, with_fuel, local, join, first_in, second_in, bool_in, int_in, text_in, tag_in, fields_in, items_in, repeated, replaced, divided, arith_of, compare_of, text_compare_of, choose, limited, at_index, operate, run, run_all, run_arm, call}
+use Rattle.ideal_meaning.specs.Execution.{Coded, Ran, Stuck, then_code, then_coded, tie, call_code}
+use Rattle.ideal_meaning.specs.Called.{ran, call_as, call_from}
 use Rattle.ideal_meaning.specs.Checked.{Cause, Taking, checked_mode_as}
 use Rattle.ideal_meaning.specs.Fetched.{Got}
 use Rattle.ideal_meaning.specs.PieceForms.{as_whole}
+use Rattle.ideal_meaning.proofs.RelatedCode.{related}
 use Rattle.fetched_verdicts.specs.Verdicts.{mode_over}
 
 -- a step of the one verifier, in each state, and of the other
 abbrev pub RunOf : Type 0 → Type 0
 RunOf A = Run Cause Taking A
 
-abbrev pub Step : Type 0
-Step = ℕ → Taking → RunOf Value
+abbrev pub CodeOf : Type 0
+CodeOf = Coded Cause Taking
 
 module _ (hash : Hash) (P : Program) (get : List ℕ → Got)
     (Claim : (A : Type 0) → Taking → (Taking → RunOf A) → RunOf A → Type 0)
@@ -175,9 +180,45 @@ module _ (hash : Hash) (P : Program) (get : List ℕ → Got)
       same_arm (AndArm body arms) zero env k s = same_run body env k s
       same_arm (AndArm body arms) (suc tag) env k s = same_arm arms tag env k s
 
-  -- calls
-  pub same_calls : (nesting f : ℕ) (args : Values) (k : ℕ) (s : Taking) → Claim Value s (call P (checked_mode_as hash P (as_whole hash P)) nesting f args k) (call P (mode_over hash P get) nesting f args k s)
+  -- calls of written functions
+  same_calls : (nesting f : ℕ) (args : Values) (k : ℕ) (s : Taking) → Claim Value s (call P (checked_mode_as hash P (as_whole hash P)) nesting f args k) (call P (mode_over hash P get) nesting f args k s)
   same_calls zero f args k s = out Value k s
   same_calls (suc nesting) f args zero s = out Value zero s
   same_calls (suc nesting) f args (suc k) s =
       same_run (call P (checked_mode_as hash P (as_whole hash P)) nesting) (call P (mode_over hash P get) nesting) (λ f args k s. same_calls nesting f args k s) (function_at P f).body args k s
+
+  -- Code, where something is claimed of what is stuck too
+  module _ (ClaimCode : Taking → (Taking → CodeOf) → CodeOf → Type 0) (stuck : (s : Taking) → ClaimCode s (λ w. Stuck) Stuck)
+      (given : (v : Value) (k : ℕ) (s : Taking) → ClaimCode s (λ w. Ran (Gives v k w)) (Ran (Gives v k s)))
+      (out_code : (k : ℕ) (s : Taking) → ClaimCode s (λ w. Ran (Ends IsOut k w)) (Ran (Ends IsOut k s)))
+      (behind : (s : Taking) (first : Taking → RunOf Value) (other : RunOf Value) (next next' : Value → ℕ → Taking → CodeOf)
+      → Claim Value s first other → ((v : Value) (k : ℕ) (s : Taking) → ClaimCode s (next v k) (next' v k s)) → ClaimCode s (λ w. then_code (first w) next) (then_code other next'))
+      (behind_code : (s : Taking) (first : Taking → CodeOf) (other : CodeOf) (next next' : Value → ℕ → Taking → CodeOf)
+      → ClaimCode s first other → ((v : Value) (k : ℕ) (s : Taking) → ClaimCode s (next v k) (next' v k s)) → ClaimCode s (λ w. then_coded (first w) next) (then_coded other next'))
+      (f : ℕ) (args : Values) (k : ℕ)
+      (as_run : (codes : List (List Instruction)) → P.code ≡ Some codes → (s : Taking)
+      → ClaimCode s (call_code (body_of P codes) (checked_mode_as hash P (as_whole hash P)) k f args k) (call_code (body_of P codes) (mode_over hash P get) k f args k s)
+      → Claim Value s (λ w. ran k w (call_code (body_of P codes) (checked_mode_as hash P (as_whole hash P)) k f args k w)) (ran k s (call_code (body_of P codes) (mode_over hash P get) k f args k s))) where
+    abbrev Runs : (ℕ → Taking → RunOf Value) → (ℕ → Taking → RunOf Value) → Type 0
+    Runs r q = (k : ℕ) (s : Taking) → Claim Value s (r k) (q k s)
+
+    abbrev Codes : (ℕ → Taking → CodeOf) → (ℕ → Taking → CodeOf) → Type 0
+    Codes c d = (k : ℕ) (s : Taking) → ClaimCode s (c k) (d k s)
+
+    same_code : (B : Body) (nesting f : ℕ) (args : Values) → Codes (call_code B (checked_mode_as hash P (as_whole hash P)) nesting f args) (call_code B (mode_over hash P get) nesting f args)
+    same_code B zero f args k s = out_code k s
+    same_code B (suc nesting) f args zero s = out_code zero s
+    same_code B (suc nesting) f args (suc k) s =
+        related Cause Taking Cause Taking Runs Codes (λ v k s. gives Value v k s) (λ trap k s. traps Value trap k s) (λ k s. stuck s) given
+        (λ r q f g runs on k s. behind s (r k) (q k s) f g (runs k s) on) (λ c d f g codes on k s. behind_code s (c k) (d k s) f g (codes k s) on)
+        B (checked_mode_as hash P (as_whole hash P)) (mode_over hash P get) (λ t v. refl) opens
+        (call_code B (checked_mode_as hash P (as_whole hash P)) nesting) (call_code B (mode_over hash P get) nesting) (same_code B nesting)
+        (code_at B f).code 0 (tie (code_at B f).parameters args) [] k s
+
+    -- a call of a program, written or compiled
+    pub same_calls_from : (s : Taking) → Claim Value s (call_from P (checked_mode_as hash P (as_whole hash P)) f args k) (call_from P (mode_over hash P get) f args k s)
+    same_calls_from s = by P.code refl
+      where
+        by : (o : Option (List (List Instruction))) → P.code ≡ o → Claim Value s (call_as P o (checked_mode_as hash P (as_whole hash P)) k f args k) (call_as P o (mode_over hash P get) k f args k s)
+        by None is = same_calls k f args k s
+        by (Some codes) is = as_run codes is s (same_code (body_of P codes) k f args k s)

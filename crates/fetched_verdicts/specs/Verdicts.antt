@@ -10,7 +10,8 @@ use Rattle.core_terms.specs.Values.{Value, Values, NoV, AndV}
 use Rattle.ideal_meaning.specs.Checked.{Cause, Taking, Verdict, BadState, BadArgument, checked_mode_as, digest_in, take_as}
 use Rattle.ideal_meaning.specs.Fetched.{Got, Answered, answered, asking, ended}
 use Rattle.ideal_meaning.specs.PieceForms.{as_whole}
-use Rattle.ideal_meaning.specs.Run.{Mode, Run, call_from}
+use Rattle.ideal_meaning.specs.Run.{Mode, Run}
+use Rattle.ideal_meaning.specs.Called.{call_from}
 
 module _ (hash : Hash) (P : Program) (get : List ℕ → Got) where
   -- the checked mode, where the next piece is the answer to the digest that is held

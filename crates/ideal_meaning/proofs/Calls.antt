@@ -3,21 +3,21 @@ use Rattle.std.proofs.Common.{◌≡◌, ◌⊎◌, inl, inr, ℕ, zero, suc, Li
 use Rattle.core_terms.specs.Types.{Ty}
 use Rattle.core_terms.specs.Formats.{Hash, IsFormat}
 use Rattle.core_terms.specs.Values.{Value, Values, IsIdeal, AreIdeal, AuthWithinAll}
-use Rattle.core_terms.specs.Terms.{Function, no_function, Program, function_at, HasType, IsTyped}
+use Rattle.core_terms.specs.Terms.{Function, no_function, Program, function_at, HasType, IsWrittenWell}
 use Rattle.core_terms.specs.Projection.{projection, projections, AllFit}
 use Rattle.ideal_meaning.specs.Run.{Run, Gives, Ends, call}
 use Rattle.ideal_meaning.specs.Ideal.{Opened, ideal_mode}
 use Rattle.ideal_meaning.specs.PieceForms.{PieceForm, as_spelled}
-use Rattle.ideal_meaning.specs.Checked.{Taking, Cause, checked_mode, checked_mode_as}
+use Rattle.ideal_meaning.specs.Checked.{Taking, Cause, checked_mode_as}
 use Rattle.ideal_meaning.specs.Agreement.{Follows, Parts}
 use Rattle.ideal_meaning.proofs.Grows.{grows_call}
 use Rattle.ideal_meaning.proofs.InHand.{IsHeld, AreHeld, held_inputs}
 use Rattle.ideal_meaning.proofs.Relation.{InStep, Agree}
-use Rattle.ideal_meaning.proofs.Opening.{IsFormOf, ReadsBackAs, ReadsBack}
+use Rattle.ideal_meaning.proofs.Opening.{IsFormOf, ReadsBackAs}
 use Rattle.ideal_meaning.proofs.Simulation.{Both, sim}
 
 -- the body of each function, also of one that isn't there, has its type
-typed_at : (P : Program) → IsTyped P → (f : ℕ) → HasType P (function_at P f).parameters (function_at P f).body (function_at P f).result
+typed_at : (P : Program) → IsWrittenWell P → (f : ℕ) → HasType P (function_at P f).parameters (function_at P f).body (function_at P f).result
 typed_at P typed f = by (slice_get P.functions f) refl
   where
     by : (o : Option Function) → slice_get P.functions f ≡ o → HasType P (unwrap_or o no_function).parameters (unwrap_or o no_function).body (unwrap_or o no_function).result
@@ -25,11 +25,11 @@ typed_at P typed f = by (slice_get P.functions f) refl
     by None e = refl
 
 -- before the first opening
-at_start : (hash : Hash) (P : Program) (form : PieceForm) (Deep : Type 0) (began : Taking) → InStep hash P form Deep began [] began
+pub at_start : (hash : Hash) (P : Program) (form : PieceForm) (Deep : Type 0) (began : Taking) → InStep hash P form Deep began [] began
 at_start hash P form Deep began =
     record { honest = record { pieces = refl; place = omega arith; fit = tt }; lefts = refl; ideals = tt; coherent = λ c. c }
 
-module _ (hash : Hash) (P : Program) (form : PieceForm) (is_form : IsFormOf hash P form) (format : IsFormat P.format) (typed : IsTyped P) (reads_back : (t : Ty) (v : Value) → IsIdeal P.types t v → ReadsBackAs hash P form t v) (Deep : Type 0) (began : Taking) where
+module _ (hash : Hash) (P : Program) (form : PieceForm) (is_form : IsFormOf hash P form) (format : IsFormat P.format) (typed : IsWrittenWell P) (reads_back : (t : Ty) (v : Value) → IsIdeal P.types t v → ReadsBackAs hash P form t v) (Deep : Type 0) (began : Taking) where
   -- calls with any bound on nesting, wherever the runs stand
   calls : (n f : ℕ) (vs : Values) (k : ℕ) (s : List Opened) (w : Taking) → AreHeld P Deep (function_at P f).parameters vs → InStep hash P form Deep began s w
       → Both hash P form format Deep began (function_at P f).result (call P ideal_mode n f vs k s) (call P (checked_mode_as hash P form) n f (projections hash P (function_at P f).parameters vs) k w)
@@ -40,16 +40,10 @@ module _ (hash : Hash) (P : Program) (form : PieceForm) (is_form : IsFormOf hash
       (function_at P f).body (function_at P f).parameters (function_at P f).result (typed_at P typed f) vs k s w h y
 
   -- a call from outside, on values within the limits
-  pub calls_agree_as : (n f : ℕ) (args : Values) (k : ℕ) → AreIdeal P.types (function_at P f).parameters args → AllFit P (function_at P f).parameters args → (Deep → AuthWithinAll P.format.limit P.types (function_at P f).parameters args)
+  pub calls_agree_written : (n f : ℕ) (args : Values) (k : ℕ) → AreIdeal P.types (function_at P f).parameters args → AllFit P (function_at P f).parameters args → (Deep → AuthWithinAll P.format.limit P.types (function_at P f).parameters args)
       → Agree hash P form Deep began (IsHeld P Deep (function_at P f).result) (projection hash P (function_at P f).result) (call P ideal_mode n f args k []) (call P (checked_mode_as hash P form) n f (projections hash P (function_at P f).parameters args) k began)
-  calls_agree_as n f args k ideals fits deep =
+  calls_agree_written n f args k ideals fits deep =
       calls n f args k [] began (held_inputs P Deep (function_at P f).parameters args ideals fits deep) (at_start hash P form Deep began)
-
--- where the pieces are those of a proof
-pub calls_agree : (hash : Hash) (P : Program) → IsFormat P.format → IsTyped P → ((t : Ty) (v : Value) → IsIdeal P.types t v → ReadsBack hash P t v) → (Deep : Type 0) (began : Taking)
-    → (n f : ℕ) (args : Values) (k : ℕ) → AreIdeal P.types (function_at P f).parameters args → AllFit P (function_at P f).parameters args → (Deep → AuthWithinAll P.format.limit P.types (function_at P f).parameters args)
-    → Agree hash P (as_spelled hash P) Deep began (IsHeld P Deep (function_at P f).result) (projection hash P (function_at P f).result) (call P ideal_mode n f args k []) (call P (checked_mode hash P) n f (projections hash P (function_at P f).parameters args) k began)
-calls_agree hash P format typed reads_back Deep began = calls_agree_as hash P (as_spelled hash P) (λ t bytes. refl) format typed reads_back Deep began
 
 -- what agrees, as the relation says it
 pub agreement_of : {A B : Type 0} (hash : Hash) (P : Program) (Deep : Type 0) (began : Taking) (Known : A → Type 0) (project : A → B) (ideal : Run ⊥ (List Opened) A) (checked : Run Cause Taking B)

@@ -23,7 +23,7 @@ use Rattle.ideal_meaning.proofs.InHand.{IsHeld}
 use Rattle.ideal_meaning.proofs.Relation.{AllOpenedIdeal, Parted, Agree}
 use Rattle.ideal_meaning.proofs.Opening.{ReadsBack}
 use Rattle.ideal_meaning.proofs.Projections.{reads_back, length_piece}
-use Rattle.ideal_meaning.proofs.Calls.{calls_agree}
+use Rattle.ideal_meaning.proofs.AgreeFrom.{calls_agree}
 use Rattle.ideal_meaning.proofs.Judged.{OnDone, bytes_are, IsSame, same_judged, same_state, same_held}
 use Rattle.ideal_meaning.proofs.RoleCalls.{parameters_are, result_is, plain_within}
 
@@ -63,7 +63,7 @@ module _ (hash : Hash) (is_hash : IsHash hash) (P : Program) (format : IsFormat 
 
   -- on the honest pieces the runs are the same to the end
   same_on : (left : ℕ) (offer : Offer) → offered_pieces offer ≡ Honest → SameTo (before_all left offer)
-  same_on left offer honest = by (calls_agree hash P format typed (reads_back hash is_hash P format) (Unit {0}) (before_all left offer) k f args k ideals fits (λ l. deep))
+  same_on left offer honest = by (calls_agree hash is_hash P format typed (reads_back hash is_hash P format) (Unit {0}) (before_all left offer) f args k ideals fits (λ l. deep))
     where
       by : Agree hash P (as_spelled hash P) (Unit {0}) (before_all left offer) (IsHeld P (Unit {0}) (function_at P f).result) (projection hash P (function_at P f).result) (ideal P f args k) (run_from (before_all left offer))
           → SameTo (before_all left offer)

@@ -17,22 +17,23 @@ use Rattle.ideal_meaning.proofs.FramesBack.{frames_coherent}
 use Rattle.ideal_meaning.proofs.InHand.{IsHeld}
 use Rattle.ideal_meaning.proofs.Opening.{ReadsBack}
 use Rattle.ideal_meaning.proofs.Projections.{reads_back}
-use Rattle.ideal_meaning.proofs.Calls.{calls_agree, agreement_of}
+use Rattle.ideal_meaning.proofs.Calls.{agreement_of}
+use Rattle.ideal_meaning.proofs.AgreeFrom.{calls_agree}
 use Rattle.ideal_meaning.proofs.Judged.{judged_well}
 use Rattle.ideal_meaning.proofs.RoleCalls.{parameters_are, result_is}
 
 -- the relation, where nothing is known of authenticated values
 pub agreement : Agreement
-agreement hash is_hash P format typed nesting f args k began ideals fits =
+agreement hash is_hash P format typed f args k began ideals fits =
     agreement_of hash P ⊥ began (IsHeld P ⊥ (function_at P f).result) (projection hash P (function_at P f).result) _ _
-    (calls_agree hash P format typed (reads_back hash is_hash P format) ⊥ began nesting f args k ideals fits (λ l. absurd l))
+    (calls_agree hash is_hash P format typed (reads_back hash is_hash P format) ⊥ began f args k ideals fits (λ l. absurd l))
 
 pub headline_of_frames : HeadlineOfFrames
 headline_of_frames hash is_hash P format typed f args k bytes n recent o ideals fits accepted =
     let began = before_all (length bytes) (offered P.format.limit bytes n recent) in
     judged_well hash P (as_spelled hash P) ⊥ began (function_at P f).result (ideal P f args k) (checked hash P f (projections hash P (function_at P f).parameters args) k began) o
     (frames_coherent P.format.limit (length bytes) n recent bytes)
-    (calls_agree hash P format typed (reads_back hash is_hash P format) ⊥ began k f args k ideals fits (λ l. absurd l)) accepted
+    (calls_agree hash is_hash P format typed (reads_back hash is_hash P format) ⊥ began f args k ideals fits (λ l. absurd l)) accepted
 
 -- The state and the argument are read back, or refused; then the header is a good one; the rest is the headline of frames.
 module _ (hash : Hash) (is_hash : IsHash hash) (P : Program) (format : IsFormat P.format) (typed : IsTyped P)

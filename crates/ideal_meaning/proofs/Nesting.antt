@@ -1,12 +1,12 @@
 -- The bound on nested calls never matters where it isn't below the fuel, since no part of a run gives fuel back.
 use Rattle.std.proofs.Common.{◌≡◌, ℕ, zero, suc, ◌≤◌, Bool, true, false, ◌++◌, ℤ, pos, negsuc, ◌+ℤ◌, ◌-ℤ◌, ◌*ℤ◌, int_div, int_rem, nat_lt, refl, ap, ◌∙◌, arith, if◌then◌else◌, le_refl}
-use Rattle.core_terms.specs.Types.{Ty, PairTy, NamedTy, TextTy, VecTy}
+use Rattle.core_terms.specs.Types.{Ty, PairTy, NamedTy, TextTy, VecTy, Table}
 use Rattle.core_terms.specs.Formats.{depth_limit}
 use Rattle.core_terms.specs.Values.{Value, TextV, PairV, ConV, ItemsV, Values, NoV, AndV, size, depth, int_fits}
 use Rattle.core_terms.specs.Terms.{Expression, UnitE, BoolE, IntE, TextE, LocalE, PairE, FstE, SndE, NotE, LenE, AuthE, UnauthE, ConE, ArithE, CompareE, TextCompareE, CatE, LetE, IfE, MatchE, CallE, OperateE, Operation, VecFill, VecGet, VecPut, Expressions, NoE, AndE, Arms, NoArm, AndArm, Program, function_at}
 use Rattle.core_terms.specs.declared.term.Arith.{Arith}
 use Rattle.core_terms.specs.declared.term.Arith.TheVariants.{Add, Sub, Mul, Div, Rem}
-use Rattle.ideal_meaning.specs.Run.{Run, Gives, Ends, Opening, Opens, Refuses, with_fuel, Mode, then_run, fuel_of, divided, arith_of, choose, limited, at_index, fill_of, get_of, put_of, operate, local, items_in, repeated, replaced, run, run_all, run_arm, call, call_from, bool_in, int_in, text_in, tag_in, fields_in, join}
+use Rattle.ideal_meaning.specs.Run.{Run, Gives, Ends, Opening, Opens, Refuses, with_fuel, Mode, then_run, fuel_of, divided, arith_of, choose, limited, at_index, fill_of, get_of, put_of, operate, local, items_in, repeated, replaced, run, run_all, run_arm, call, bool_in, int_in, text_in, tag_in, fields_in, join}
 
 module _ (C W : Type 0) where
   -- two runs are one, which leaves no more fuel than it was given
@@ -50,30 +50,31 @@ module _ (C W : Type 0) where
   with_fuel_low k (Opens v w) = le_refl k
   with_fuel_low k (Refuses cause w) = le_refl k
 
-  module _ (P : Program) (mode : Mode C W) where
-    pub limited_low : (t : Ty) (v : Value) (k : ℕ) (w : W) → fuel_of (limited {C = C} P.format.limit P.types t v k w) ≤ k
+  module _ (limit : ℕ) (types : Table) where
+    pub limited_low : (t : Ty) (v : Value) (k : ℕ) (w : W) → fuel_of (limited {C = C} limit types t v k w) ≤ k
     limited_low t v k w =
-        if_low (nat_lt P.format.limit (size P.types t v)) k _ _ (le_refl k) (if_low (nat_lt depth_limit (depth P.types t v)) k _ _ (le_refl k) (le_refl k))
+        if_low (nat_lt limit (size types t v)) k _ _ (le_refl k) (if_low (nat_lt depth_limit (depth types t v)) k _ _ (le_refl k) (le_refl k))
 
     pub index_low : (n : ℕ) (z : ℤ) (f : ℕ → ℕ → W → Run C W Value) (k : ℕ) (w : W) → ((i : ℕ) → fuel_of (f i k w) ≤ k) → fuel_of (at_index n z f k w) ≤ k
     index_low n (pos i) f k w h = if_low (nat_lt i n) k _ _ (h i) (le_refl k)
     index_low n (negsuc i) f k w h = le_refl k
 
-    pub fill_low : (n : ℕ) (t : Ty) (v : Value) (k : ℕ) (w : W) → fuel_of (fill_of {C = C} P.format.limit P.types n t v k w) ≤ k
+    pub fill_low : (n : ℕ) (t : Ty) (v : Value) (k : ℕ) (w : W) → fuel_of (fill_of {C = C} limit types n t v k w) ≤ k
     fill_low n t v k w = limited_low (VecTy n t) (ItemsV (repeated n v)) k w
 
     pub get_low : (n : ℕ) (vs : Values) (z : ℤ) (k : ℕ) (w : W) → fuel_of (get_of {C = C} n vs z k w) ≤ k
     get_low n vs z k w = index_low n z (λ i k w. Gives (local vs i) k w) k w (λ i. le_refl k)
 
-    pub put_low : (n : ℕ) (t : Ty) (vs : Values) (z : ℤ) (v : Value) (k : ℕ) (w : W) → fuel_of (put_of {C = C} P.format.limit P.types n t vs z v k w) ≤ k
+    pub put_low : (n : ℕ) (t : Ty) (vs : Values) (z : ℤ) (v : Value) (k : ℕ) (w : W) → fuel_of (put_of {C = C} limit types n t vs z v k w) ≤ k
     put_low n t vs z v k w =
-        index_low n z (λ i k w. limited P.format.limit P.types (VecTy n t) (ItemsV (replaced vs i v)) k w) k w (λ i. limited_low (VecTy n t) (ItemsV (replaced vs i v)) k w)
+        index_low n z (λ i k w. limited limit types (VecTy n t) (ItemsV (replaced vs i v)) k w) k w (λ i. limited_low (VecTy n t) (ItemsV (replaced vs i v)) k w)
 
-    pub operate_low : (op : Operation) (vs : Values) (k : ℕ) (w : W) → fuel_of (operate {C = C} P.format.limit P.types op vs k w) ≤ k
+    pub operate_low : (op : Operation) (vs : Values) (k : ℕ) (w : W) → fuel_of (operate {C = C} limit types op vs k w) ≤ k
     operate_low (VecFill n t) vs k w = fill_low n t (local vs 0) k w
     operate_low (VecGet n t) vs k w = get_low n (items_in (local vs 0)) (int_in (local vs 1)) k w
     operate_low (VecPut n t) vs k w = put_low n t (items_in (local vs 0)) (int_in (local vs 1)) (local vs 2) k w
 
+  module _ (P : Program) (mode : Mode C W) where
     module _ (c d : ℕ → Values → ℕ → W → Run C W Value) (most : ℕ) (alike : (f : ℕ) (vs : Values) (k : ℕ) (w : W) → k ≤ most → Alike k (c f vs k w) (d f vs k w)) where
       mutual
         runs : (e : Expression) (env : Values) (k : ℕ) (w : W) → k ≤ most → Alike k (run P mode c e env k w) (run P mode d e env k w)
@@ -83,14 +84,14 @@ module _ (C W : Type 0) where
         runs (TextE bytes) env k w h = self k _ (le_refl k)
         runs (LocalE i) env k w h = self k _ (le_refl k)
         runs (PairE a b x y) env k w h =
-            then_alike k _ _ _ _ (runs x env k w h) (λ u m w l. then_alike m _ _ _ _ (runs y env m w (omega (arith, h, l))) (λ v m w l. self m _ (limited_low (PairTy a b) (PairV u v) m w)))
+            then_alike k _ _ _ _ (runs x env k w h) (λ u m w l. then_alike m _ _ _ _ (runs y env m w (omega (arith, h, l))) (λ v m w l. self m _ (limited_low P.format.limit P.types (PairTy a b) (PairV u v) m w)))
         runs (FstE a b x) env k w h = then_alike k _ _ _ _ (runs x env k w h) (λ u m w l. self m _ (le_refl m))
         runs (SndE a b x) env k w h = then_alike k _ _ _ _ (runs x env k w h) (λ u m w l. self m _ (le_refl m))
         runs (NotE x) env k w h = then_alike k _ _ _ _ (runs x env k w h) (λ u m w l. self m _ (le_refl m))
         runs (LenE x) env k w h = then_alike k _ _ _ _ (runs x env k w h) (λ u m w l. self m _ (le_refl m))
         runs (AuthE t x) env k w h = then_alike k _ _ _ _ (runs x env k w h) (λ u m w l. self m _ (le_refl m))
         runs (UnauthE t x) env k w h = then_alike k _ _ _ _ (runs x env k w h) (λ u m w l. self m _ (with_fuel_low m (mode.unauth t u w)))
-        runs (ConE number tag xs) env k w h = then_alike k _ _ _ _ (all_runs xs env k w h) (λ vs m w l. self m _ (limited_low (NamedTy number) (ConV tag vs) m w))
+        runs (ConE number tag xs) env k w h = then_alike k _ _ _ _ (all_runs xs env k w h) (λ vs m w l. self m _ (limited_low P.format.limit P.types (NamedTy number) (ConV tag vs) m w))
         runs (ArithE op x y) env k w h =
             then_alike k _ _ _ _ (runs x env k w h) (λ u m w l. then_alike m _ _ _ _ (runs y env m w (omega (arith, h, l))) (λ v m w l. self m _ (arith_low op (int_in u) (int_in v) m w)))
         runs (CompareE op x y) env k w h =
@@ -98,13 +99,13 @@ module _ (C W : Type 0) where
         runs (TextCompareE op x y) env k w h =
             then_alike k _ _ _ _ (runs x env k w h) (λ u m w l. then_alike m _ _ _ _ (runs y env m w (omega (arith, h, l))) (λ v m w l. self m _ (le_refl m)))
         runs (CatE x y) env k w h =
-            then_alike k _ _ _ _ (runs x env k w h) (λ u m w l. then_alike m _ _ _ _ (runs y env m w (omega (arith, h, l))) (λ v m w l. self m _ (limited_low TextTy (TextV (text_in u ++ text_in v)) m w)))
+            then_alike k _ _ _ _ (runs x env k w h) (λ u m w l. then_alike m _ _ _ _ (runs y env m w (omega (arith, h, l))) (λ v m w l. self m _ (limited_low P.format.limit P.types TextTy (TextV (text_in u ++ text_in v)) m w)))
         runs (LetE a x body) env k w h = then_alike k _ _ _ _ (runs x env k w h) (λ u m w l. runs body (join env (AndV u NoV)) m w (omega (arith, h, l)))
         runs (IfE test x y) env k w h =
             then_alike k _ _ _ _ (runs test env k w h) (λ u m w l. choose_alike (bool_in u) (run P mode c x) (run P mode c y) (run P mode d x) (run P mode d y) env m w (runs x env m w (omega (arith, h, l))) (runs y env m w (omega (arith, h, l))))
         runs (MatchE number x arms) env k w h = then_alike k _ _ _ _ (runs x env k w h) (λ u m w l. arm_runs arms (tag_in u) (join env (fields_in u)) m w (omega (arith, h, l)))
         runs (CallE f args) env k w h = then_alike k _ _ _ _ (all_runs args env k w h) (λ vs m w l. alike f vs m w (omega (arith, h, l)))
-        runs (OperateE op xs) env k w h = then_alike k _ _ _ _ (all_runs xs env k w h) (λ vs m w l. self m _ (operate_low op vs m w))
+        runs (OperateE op xs) env k w h = then_alike k _ _ _ _ (all_runs xs env k w h) (λ vs m w l. self m _ (operate_low P.format.limit P.types op vs m w))
 
         all_runs : (xs : Expressions) (env : Values) (k : ℕ) (w : W) → k ≤ most → Alike k (run_all P mode c xs env k w) (run_all P mode d xs env k w)
         all_runs NoE env k w h = self k _ (le_refl k)
@@ -128,5 +129,5 @@ module _ (C W : Type 0) where
         record { same = r.same; low = omega (arith, r.low) }
 
     -- any bound that isn't below the fuel gives the same run
-    pub bound_enough : (n f : ℕ) (vs : Values) (k : ℕ) (w : W) → k ≤ n → call P mode n f vs k w ≡ call_from P mode f vs k w
-    bound_enough n f vs k w h = (calls_alike n k f vs k w h (le_refl k)).same
+    pub written_bound : (n f : ℕ) (vs : Values) (k : ℕ) (w : W) → k ≤ n → call P mode n f vs k w ≡ call P mode k f vs k w
+    written_bound n f vs k w h = (calls_alike n k f vs k w h (le_refl k)).same

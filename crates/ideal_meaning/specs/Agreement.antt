@@ -4,7 +4,8 @@ use Rattle.core_terms.specs.Formats.{Hash, IsHash, IsFormat}
 use Rattle.core_terms.specs.Values.{Values, AreIdeal}
 use Rattle.core_terms.specs.Terms.{Program, function_at, IsTyped}
 use Rattle.core_terms.specs.Projection.{digest_at, projection, projections, Fits, AllFit}
-use Rattle.ideal_meaning.specs.Run.{Stop, Traps, IsOut, Rejects, Run, Gives, Ends, Refuses, state_of, call}
+use Rattle.ideal_meaning.specs.Run.{Stop, Traps, IsOut, Rejects, Run, Gives, Ends, Refuses, state_of}
+use Rattle.ideal_meaning.specs.Called.{call_from}
 use Rattle.ideal_meaning.specs.Ideal.{Opened, Piece, ideal_mode, honest_bytes}
 use Rattle.ideal_meaning.specs.PieceForms.{PieceForm, as_spelled}
 use Rattle.ideal_meaning.specs.Frames.{offered_pieces}
@@ -96,11 +97,11 @@ module _ (hash : Hash) (P : Program) where
 
 -- The relation. A typed program's function, called in both modes on ideal values within the limits and their projections, with
 -- the same fuel and whatever pieces are offered, does the same in both, the checked run in projection, or the two part at one
--- opening. It holds at every bound of nested calls.
+-- opening.
 abbrev pub Agreement : Type 0
 Agreement = (hash : Hash) → IsHash hash → (P : Program) → IsFormat P.format → IsTyped P
-    → (nesting f : ℕ) (args : Values) (k : ℕ) (began : Taking)
+    → (f : ℕ) (args : Values) (k : ℕ) (began : Taking)
     → AreIdeal P.types (function_at P f).parameters args → AllFit P (function_at P f).parameters args
-    → let ideal = call P ideal_mode nesting f args k [] in
-    let checked = call P (checked_mode hash P) nesting f (projections hash P (function_at P f).parameters args) k began in
+    → let ideal = call_from P ideal_mode f args k [] in
+    let checked = call_from P (checked_mode hash P) f (projections hash P (function_at P f).parameters args) k began in
     Follows hash P (projection hash P (function_at P f).result) began ideal checked ⊎ Parts hash P began ideal checked

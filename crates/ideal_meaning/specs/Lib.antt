@@ -1,4 +1,6 @@
 pub mod Run
+pub mod Execution
+pub mod Called
 pub mod Ideal
 pub mod Wire
 pub mod PieceForms
@@ -10,6 +12,9 @@ pub mod Ring
 pub mod Headline
 pub mod Following
 pub mod Agreement
+pub mod CodeTypes
+pub mod ModeKinds
+pub mod CodeAgreement
 pub mod Table
 pub mod Operations
 pub mod Arrays

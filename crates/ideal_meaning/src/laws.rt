@@ -1,5 +1,11 @@
 //! Laws over the definitions alone, each the contract of a function that does nothing.
 
+ghost use Rattle.std.specs.Prelude.{Bool};
+ghost use Rattle.core_terms.specs.Types.{Ty};
+ghost use Rattle.core_terms.specs.Values.{Value};
+ghost use Rattle.ideal_meaning.specs.Run.{Mode};
+ghost use Rattle.ideal_meaning.specs.CodeTypes.{NeverStuck};
+ghost use Rattle.ideal_meaning.specs.CodeAgreement.{CodeAgreement};
 ghost use Rattle.ideal_meaning.specs.Headline.{HeadlineOfFrames, Headline, Companion};
 ghost use Rattle.ideal_meaning.specs.Following.{CompanionOfFrames, NewPieceBoundIsEnough, NewPiecesAreReadBack, VerdictIsOnFrames};
 ghost use Rattle.ideal_meaning.specs.Agreement.{Agreement};
@@ -40,6 +46,16 @@ pub fn following_proofs()
     ensures accepted { CompanionOfFrames }
     ensures pieces { NewPiecesAreReadBack }
     ensures bound { NewPieceBoundIsEnough }
+{}
+
+/// Accepted code is never stuck, in any mode.
+pub fn never_stuck<C, W>()
+    ensures { (mode : Mode C W) (A : Ty → Value → Bool) → NeverStuck mode A }
+{}
+
+/// The ideal and the checked run of accepted code do the same, or part at one opening. No source is named.
+pub fn code_agreement()
+    ensures { CodeAgreement }
 {}
 
 /// The relation behind both: called on ideal values and on their projections, with the same fuel and whatever pieces are

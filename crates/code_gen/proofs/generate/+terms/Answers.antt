@@ -2,8 +2,9 @@ use Rattle.std.proofs.Common.{subst, sym, ap, ◌∙◌, append-nil, ◌++◌, �
 use Rattle.core_terms.specs.Programs.{meaning, types_of}
 use Rattle.core_terms.specs.ProgramTrees.{arms_in_a_row, expression_of, operation_of}
 use Rattle.core_terms.proofs.TermViews.{expression-Constructor, expression-Call, expression-Operate}
-use Rattle.code_gen.specs.CodeTrees.{all_of, instruction_of, instructions_of}
-use Rattle.code_gen.specs.Instructions as instruction
+use Rattle.code_gen.specs.CodeTrees.{all_of}
+use Rattle.core_terms.specs.InstructionViews.{instruction_of, instructions_of}
+use Rattle.core_terms.specs.Instructions as instruction
 use Rattle.code_gen.specs.Code.{arm_codes, code_of, operation_code}
 use Rattle.code_gen.proofs.Rows.{all_before, one_more, row_then}
 use Rattle.code_gen.proofs.ArmRows.{arms_more}

@@ -1,4 +1,4 @@
-use Rattle.std.proofs.Common.{◌≡◌, ◌+◌, ◌++◌, ◌∷◌, [], List, Bool, ◌∙◌, ap, length, length-append, sym, subst}
+use Rattle.std.proofs.Common.{◌≡◌, ◌+◌, ◌++◌, ◌∷◌, [], ◌∙◌, ap, length, length-append, sym, subst}
 use Rattle.core_terms.specs.AuthMarks.{AreLevelMarks, mark_of_form}
 use Rattle.core_terms.specs.Programs.{types_in}
 use Rattle.core_terms.proofs.AuthLevels.{one_more}

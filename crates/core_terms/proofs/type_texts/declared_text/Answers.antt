@@ -1,4 +1,4 @@
-use Rattle.std.proofs.Common.{◌∙◌, sym, refl, length, arith}
+use Rattle.std.proofs.Common.{◌∙◌, sym, refl, arith}
 use Rattle.core_terms.specs.Programs.{types_in}
 use Rattle.core_terms.specs.TypeNames.{type_names}
 use Rattle.core_terms.specs.TypeTexts.{named_texts}

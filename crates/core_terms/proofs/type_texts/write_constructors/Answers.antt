@@ -1,4 +1,4 @@
-use Rattle.std.proofs.Common.{◌∙◌, ◌++◌, List, refl, sym, ap, length, arith, append_assoc}
+use Rattle.std.proofs.Common.{◌∙◌, ◌++◌, refl, ap, arith, append_assoc}
 use Rattle.std.specs.Prelude.{codes}
 use Rattle.core_terms.specs.ProgramTrees.{types_at}
 use Rattle.core_terms.specs.Programs.{types_in}

@@ -1,4 +1,4 @@
-use Rattle.ideal_meaning.proofs.Nesting.{bound_enough}
+use Rattle.ideal_meaning.proofs.Bounds.{bound_enough}
 use Rattle.ideal_meaning.proofs.laws.bound.Goals as goal
 
 pub returns : goal.returns

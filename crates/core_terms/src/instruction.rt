@@ -1,6 +1,6 @@
 // The instructions of the virtual machine.
 
-use core_terms::{Arith, Compare, FunctionId, LocalId, NamedId, Tag, Text, TextCompare, TyId};
+use crate::{Arith, Compare, FunctionId, LocalId, NamedId, Tag, Text, TextCompare, TyId};
 
 /// An instruction. A frame has locals and a stack of operands; an instruction pops its operands, the last one first, and
 /// pushes what it gives. Jumps go forward alone: a jump says how many of the instructions behind it are passed over.

@@ -1,13 +1,9 @@
 -- Accepted code: at each instruction the types of the locals and of the operands are known, and it finds there what it needs.
-use Rattle.std.specs.Prelude.{◌≡◌, ◌<◌, ◌≤◌, ℕ, Bool, true, List, [], ◌∷◌, ◌++◌, length, Some, slice_get, IsUtf8}
+use Rattle.std.specs.Prelude.{◌≡◌, ◌<◌, ◌≤◌, ℕ, true, List, [], ◌∷◌, ◌++◌, length, Some, slice_get, IsUtf8}
 use Rattle.core_terms.specs.Types.{Ty, UnitTy, BoolTy, IntTy, TextTy, PairTy, NamedTy, AuthTy, VecTy, fields_at, is_length}
-use Rattle.core_terms.specs.Values.{Value, Values, int_fits}
-use Rattle.ideal_meaning.specs.Run.{Mode}
-use Rattle.code_gen.specs.Instructions.{Instruction, PushUnit, PushBool, PushInt, PushText, Load, Bind, Unbind, Pair, Fst, Snd, Make, Switch, Branch, Jump, Call, Return, Auth, Unauth}
-use Rattle.code_gen.specs.Instructions.{ArithOp, CompareOp, TextCompareOp, Cat, Len, Not, VecFill, VecGet, VecPut}
-use Rattle.code_gen.specs.Code.{Body, code_at}
-use Rattle.code_meaning.specs.Execution.{Coded, Ran, Stuck, call_code_from}
-use Rattle.code_meaning.specs.Right.{IsOf, AreOf, Holds, IsMode}
+use Rattle.core_terms.specs.Values.{int_fits}
+use Rattle.core_terms.specs.Instructions.{Instruction, PushUnit, PushBool, PushInt, PushText, Load, Bind, Unbind, Pair, Fst, Snd, Make, Switch, Branch, Jump, Call, Return, Auth, Unauth, ArithOp, CompareOp, TextCompareOp, Cat, Len, Not, VecFill, VecGet, VecPut}
+use Rattle.core_terms.specs.Bodies.{Body, code_at}
 
 -- the types of the locals, and those of the operands, the top one first, before an instruction
 pub record Shape : Type 0 where
@@ -67,15 +63,3 @@ IsFine B z is shapes = ⊥
 -- Each function's instructions have shapes that are fine, where the parameters are the first locals and there are no operands.
 abbrev pub IsAccepted : Body → Type 0
 IsAccepted B = (f : ℕ) → (shapes : List Shape) × IsFine B (code_at B f).result (code_at B f).code shapes × (slice_get shapes 0 ≡ Some (shape (code_at B f).parameters []))
-
--- it ends as a run, and what it gives has the property
-abbrev pub Goes : {C W : Type 0} → (Value → Type 0) → Coded C W → Type 0
-Goes Q (Ran r) = Holds Q r
-Goes Q Stuck = ⊥
-
--- Accepted code is never stuck, in any mode. A mode has its laws for A, which tells the values of authenticated types in it; then a
--- function that is called on values of its parameters' types gives, where it gives anything, a value of its result type.
-abbrev pub NeverStuck : {C W : Type 0} → Mode C W → (Ty → Value → Bool) → Type 0
-NeverStuck {W = W} mode A = (B : Body) → IsAccepted B → IsMode B.types A mode
-    → (f : ℕ) (args : Values) (k : ℕ) (w : W) → AreOf B.types A (code_at B f).parameters args
-    → Goes (IsOf B.types A (code_at B f).result) (call_code_from B mode f args k w)

@@ -1,5 +1,5 @@
 -- The relation between the ideal and the checked run of code. No source is named: it holds of every accepted code.
-use Rattle.std.specs.Prelude.{◌≡◌, ◌⊎◌, ℕ, []}
+use Rattle.std.specs.Prelude.{◌≡◌, ◌⊎◌, ℕ, [], None}
 use Rattle.core_terms.specs.Types.{UnitTy, Table}
 use Rattle.core_terms.specs.Formats.{Format, Hash, IsHash, IsFormat}
 use Rattle.core_terms.specs.Values.{Value, Values, AreIdeal}
@@ -9,13 +9,13 @@ use Rattle.ideal_meaning.specs.Run.{Run}
 use Rattle.ideal_meaning.specs.Ideal.{ideal_mode}
 use Rattle.ideal_meaning.specs.Checked.{Taking, checked_mode}
 use Rattle.ideal_meaning.specs.Agreement.{Follows, Parts}
-use Rattle.code_gen.specs.Code.{Body, code_at}
-use Rattle.code_meaning.specs.Execution.{Coded, Ran, call_code}
-use Rattle.code_meaning.specs.Accept.{IsAccepted}
+use Rattle.core_terms.specs.Bodies.{Body, code_at}
+use Rattle.ideal_meaning.specs.Execution.{Coded, Ran, call_code}
+use Rattle.core_terms.specs.Accepted.{IsAccepted}
 
 -- these types in this format, as a program without functions: the checked mode and projections ask no more of a program
 abbrev pub over : Format → Table → Program
-over format types = record { format = format; types = types; state = UnitTy; functions = [] }
+over format types = record { format = format; types = types; state = UnitTy; functions = []; code = None }
 
 -- neither is stuck, and the runs are related
 abbrev pub BothRan : {C W D V : Type 0} → (Run C W Value → Run D V Value → Type 0) → Coded C W → Coded D V → Type 0

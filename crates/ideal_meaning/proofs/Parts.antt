@@ -6,8 +6,8 @@ use Rattle.core_terms.specs.Formats.{depth_limit}
 use Rattle.core_terms.specs.declared.term.Arith.{Arith}
 use Rattle.core_terms.specs.declared.term.Arith.TheVariants.{Add, Sub, Mul, Div, Rem}
 use Rattle.ideal_meaning.specs.Run.{Run, Gives, Ends, then_run, exact, divided, arith_of, limited, local, join}
-use Rattle.code_meaning.specs.Execution.{Coded, Ran, then_code, Held, held, tie, without_last, popped}
-use Rattle.code_meaning.specs.Right.{IsOf, AreOf, Holds}
+use Rattle.ideal_meaning.specs.Execution.{Coded, Ran, then_code, Held, held, tie, without_last, popped}
+use Rattle.ideal_meaning.specs.CodeTypes.{IsOf, AreOf, Holds}
 
 module _ (C W : Type 0) where
   pub then_assoc : {A B : Type 0} (r : Run C W A) (f : A → ℕ → W → Run C W B) (g : B → ℕ → W → Coded C W) → then_code (then_run r f) g ≡ then_code r (λ a k w. then_code (f a k w) g)

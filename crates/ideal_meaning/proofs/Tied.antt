@@ -7,9 +7,9 @@ use Rattle.core_terms.specs.Terms.{Program}
 use Rattle.core_terms.specs.Projection.{projections}
 use Rattle.ideal_meaning.specs.Run.{local, join}
 use Rattle.ideal_meaning.proofs.InHand.{AreHeld}
-use Rattle.code_meaning.specs.Execution.{Coded, Held, held, tie, popped}
-use Rattle.code_meaning.specs.Accept.{push_types}
-use Rattle.code_meaning.proofs.Parts.{push_all, join_nil}
+use Rattle.ideal_meaning.specs.Execution.{Coded, Held, held, tie, popped}
+use Rattle.core_terms.specs.Accepted.{push_types}
+use Rattle.ideal_meaning.proofs.Parts.{push_all, join_nil}
 
 -- as many values as types
 abbrev pub Even : List Ty → Values → Type 0

@@ -4,14 +4,13 @@ use Rattle.core_terms.specs.Types.{Ty, UnitTy, BoolTy, IntTy, TextTy, PairTy, Na
 use Rattle.core_terms.specs.Formats.{depth_limit}
 use Rattle.core_terms.specs.Values.{Value, IntV, TextV, PairV, ConV, ItemsV, Values, NoV, AndV, size, depth}
 use Rattle.ideal_meaning.specs.Run.{Run, Gives, Ends, Mode, arith_of, limited, fill_of, get_of, put_of, with_fuel}
-use Rattle.code_gen.specs.Instructions.{Instruction, PushUnit, PushBool, PushInt, PushText, Load, Bind, Unbind, Pair, Fst, Snd, Make, Switch, Branch, Jump, Call, Return, Auth, Unauth, ArithOp, CompareOp, TextCompareOp, Cat, Len, Not, VecFill, VecGet, VecPut}
-use Rattle.code_gen.specs.Code.{Body, field_count}
-use Rattle.code_meaning.specs.Execution.{Coded, Ran, Stuck, Held, held, tie, then_code, then_coded, where_some, Next, act, exec, call_code}
-use Rattle.code_gen.specs.Code.{code_at}
-use Rattle.code_meaning.specs.Right.{IsOf, AreOf, Holds, IsMode}
-use Rattle.code_meaning.specs.Accept.{Shape, shape, push_types, Fits, IsFine, IsAccepted, Goes, NeverStuck}
-use Rattle.code_meaning.proofs.Arrays.{at_items, holds_fill, holds_get, holds_put}
-use Rattle.code_meaning.proofs.Parts.{holds_if, holds_arith, push_all, popped_all, last_dropped, at_bool, at_int, at_text, at_pair, at_con}
+use Rattle.core_terms.specs.Instructions.{Instruction, PushUnit, PushBool, PushInt, PushText, Load, Bind, Unbind, Pair, Fst, Snd, Make, Switch, Branch, Jump, Call, Return, Auth, Unauth, ArithOp, CompareOp, TextCompareOp, Cat, Len, Not, VecFill, VecGet, VecPut}
+use Rattle.core_terms.specs.Bodies.{Body, field_count, code_at}
+use Rattle.ideal_meaning.specs.Execution.{Coded, Ran, Stuck, Held, held, tie, then_code, then_coded, where_some, Next, act, exec, call_code}
+use Rattle.ideal_meaning.specs.CodeTypes.{IsOf, AreOf, Holds, IsMode, Goes, NeverStuck}
+use Rattle.core_terms.specs.Accepted.{Shape, shape, push_types, Fits, IsFine, IsAccepted}
+use Rattle.ideal_meaning.proofs.CodeArrays.{at_items, holds_fill, holds_get, holds_put}
+use Rattle.ideal_meaning.proofs.Parts.{holds_if, holds_arith, push_all, popped_all, last_dropped, at_bool, at_int, at_text, at_pair, at_con}
 
 module _ (C W : Type 0) (B : Body) (mode : Mode C W) (A : Ty → Value → Bool) (laws : IsMode B.types A mode) where
   abbrev Of : Ty → Value → Type 0

@@ -1,37 +1,30 @@
 -- The relation of the ideal and the checked run of code, from their simulation.
-use Rattle.std.proofs.Common.{◌⊎◌, ℕ, List, [], ◌∷◌, refl, sym, subst, arith}
+use Rattle.std.proofs.Common.{◌⊎◌, ℕ, List, [], refl, sym, subst}
 use Rattle.core_terms.specs.Types.{Ty, Table}
 use Rattle.core_terms.specs.Formats.{Format, Hash, IsHash, IsFormat}
-use Rattle.core_terms.specs.Values.{Value, Values, NoV, AndV, AreIdeal, AreShallow}
+use Rattle.core_terms.specs.Values.{Value, Values, AreIdeal}
 use Rattle.core_terms.specs.Terms.{Program}
-use Rattle.core_terms.specs.Projection.{digest_at, projection, projections, AllFit}
-use Rattle.core_terms.proofs.ReadBack.{shallow_is}
+use Rattle.core_terms.specs.Projection.{projection, projections, AllFit}
 use Rattle.ideal_meaning.specs.Ideal.{Opened, ideal_mode}
 use Rattle.ideal_meaning.specs.PieceForms.{as_spelled}
 use Rattle.ideal_meaning.specs.Checked.{Taking, Cause, checked_mode}
 use Rattle.ideal_meaning.specs.Agreement.{Follows, Parts}
 use Rattle.ideal_meaning.proofs.InHand.{IsHeld, held_inputs}
-use Rattle.ideal_meaning.proofs.Relation.{InStep}
 use Rattle.ideal_meaning.proofs.Projections.{reads_back}
-use Rattle.ideal_meaning.proofs.Calls.{agreement_of}
-use Rattle.code_gen.specs.Code.{Body, FunctionCode, code_at}
-use Rattle.code_meaning.specs.Execution.{Coded, Ran, Stuck, call_code}
-use Rattle.code_meaning.specs.Accept.{IsAccepted, Goes}
-use Rattle.code_meaning.specs.Modes.{ideal_kind, digest_kind}
-use Rattle.code_meaning.specs.CodeAgreement.{over, BothRan, CodeAgreement}
-use Rattle.code_meaning.proofs.ModeLaws.{ideal_laws, checked_laws, ideals_are, shallows_are}
-use Rattle.code_meaning.proofs.Never.{never}
-use Rattle.code_meaning.proofs.Simulated.{Meets, called}
+use Rattle.ideal_meaning.proofs.Calls.{agreement_of, at_start}
+use Rattle.core_terms.specs.Bodies.{Body, FunctionCode, code_at}
+use Rattle.ideal_meaning.specs.Execution.{Coded, Ran, Stuck, call_code}
+use Rattle.core_terms.specs.Accepted.{IsAccepted}
+use Rattle.ideal_meaning.specs.CodeTypes.{Goes}
+use Rattle.ideal_meaning.specs.ModeKinds.{ideal_kind, digest_kind}
+use Rattle.ideal_meaning.specs.CodeAgreement.{over, BothRan, CodeAgreement}
+use Rattle.ideal_meaning.proofs.ModeLaws.{ideal_laws, checked_laws, ideals_are, shallows_are, projections_shallow}
+use Rattle.ideal_meaning.proofs.Never.{never}
+use Rattle.ideal_meaning.proofs.Simulated.{Meets, called}
 
 module _ (hash : Hash) (is_hash : IsHash hash) (format : Format) (is_format : IsFormat format) (types : Table) where
   abbrev P : Program
   P = over format types
-
-  pub projections_are : (ts : List Ty) (vs : Values) → AreIdeal types ts vs → AreShallow types ts (projections hash (over format types) ts vs)
-  projections_are [] NoV h = tt
-  projections_are (t ∷ ts) (AndV v vs) h = (shallow_is (digest_at hash P) (is_format.digest_length hash is_hash) types t v h.0, projections_are ts vs h.1)
-  projections_are [] (AndV v vs) h = elim h [ ]
-  projections_are (t ∷ ts) NoV h = elim h [ ]
 
   module _ (functions : List FunctionCode) (began : Taking) where
     abbrev B : Body
@@ -39,14 +32,11 @@ module _ (hash : Hash) (is_hash : IsHash hash) (format : Format) (is_format : Is
 
     -- neither is stuck, so both ran
     both_ran : (t : Ty) (Q R : Value → Type 0) (c : Coded ⊥ (List Opened)) (d : Coded Cause Taking) → Goes Q c → Goes R d
-        → Meets hash format is_format ⊥ began types functions (reads_back hash is_hash (over format types) is_format) t c d
+        → Meets hash (over format types) (as_spelled hash (over format types)) (λ t bytes. refl) is_format ⊥ began functions (reads_back hash is_hash (over format types) is_format) t c d
         → BothRan (λ ideal checked. Follows hash (over format types) (projection hash (over format types) t) began ideal checked ⊎ Parts hash (over format types) began ideal checked) c d
     both_ran t Q R (Ran r) (Ran q) g h m = agreement_of hash P ⊥ began (IsHeld P ⊥ t) (projection hash P t) r q (m r q refl refl)
     both_ran t Q R (Ran r) Stuck g h m = elim h [ ]
     both_ran t Q R Stuck d g h m = elim g [ ]
-
-    at_start : InStep hash (over format types) (as_spelled hash (over format types)) ⊥ began [] began
-    at_start = record { honest = record { pieces = refl; place = omega arith; fit = tt }; lefts = refl; ideals = tt; coherent = λ c. c }
 
     pub agreed : IsAccepted (record { limit = format.limit; types = types; functions = functions }) → (n f : ℕ) (args : Values) (k : ℕ)
         → let g = code_at (record { limit = format.limit; types = types; functions = functions }) f in
@@ -60,9 +50,9 @@ module _ (hash : Hash) (is_hash : IsHash hash) (format : Format) (is_format : Is
         both_ran g.result _ _ _ _
         (never ⊥ (List Opened) B ideal_mode (ideal_kind types) (ideal_laws types) accepted n f args k [] (ideals_are types g.parameters args ideals))
         (never Cause Taking B (checked_mode hash P) digest_kind (checked_laws hash P) accepted n f (projections hash P g.parameters args) k began
-        (shallows_are types g.parameters _ (projections_are g.parameters args ideals)))
-        (called hash format is_format ⊥ began types functions (reads_back hash is_hash P is_format) accepted n f args k [] began
-        (held_inputs P ⊥ g.parameters args ideals fits (λ l. absurd l)) at_start)
+        (shallows_are types g.parameters _ (projections_shallow hash is_hash P is_format g.parameters args ideals)))
+        (called hash (over format types) (as_spelled hash (over format types)) (λ t bytes. refl) is_format ⊥ began functions (reads_back hash is_hash P is_format) accepted n f args k [] began
+        (held_inputs P ⊥ g.parameters args ideals fits (λ l. absurd l)) (at_start hash (over format types) (as_spelled hash (over format types)) ⊥ began))
 
 pub code_agreement : CodeAgreement
 code_agreement hash is_hash format is_format B e accepted n f args k began ideals fits =

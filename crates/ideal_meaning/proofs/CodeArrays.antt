@@ -1,12 +1,12 @@
 -- Operations on arrays, over code: what they give has its type, and their instructions do what they do.
-use Rattle.std.proofs.Common.{◌≡◌, ◌<◌, ℕ, zero, suc, Bool, true, false, List, [], ◌∷◌, ℤ, pos, negsuc, nat_lt, refl, ltb-true, if◌then◌else◌}
-use Rattle.core_terms.specs.Types.{Ty, IntTy, VecTy, Table, item_types}
-use Rattle.core_terms.specs.Values.{Value, IntV, ItemsV, Values, NoV, AndV}
+use Rattle.std.proofs.Common.{◌≡◌, ◌<◌, ℕ, zero, suc, Bool, true, false, ℤ, pos, negsuc, nat_lt, refl, ltb-true, if◌then◌else◌}
+use Rattle.core_terms.specs.Types.{Ty, VecTy, Table, item_types}
+use Rattle.core_terms.specs.Values.{Value, ItemsV, Values, NoV, AndV}
 use Rattle.core_terms.specs.Terms.{Operation, VecFill, VecGet, VecPut, operand_types, result_type}
-use Rattle.ideal_meaning.specs.Run.{Run, Ends, Traps, Index, at_index, fill_of, get_of, put_of, operate, int_in, items_in, local, repeated, replaced}
+use Rattle.ideal_meaning.specs.Run.{Run, Ends, Traps, Index, at_index, fill_of, get_of, put_of, operate, int_in, items_in, repeated, replaced}
 use Rattle.ideal_meaning.proofs.InHand.{item_type_at}
-use Rattle.code_meaning.specs.Right.{IsOf, AreOf, Holds}
-use Rattle.code_meaning.proofs.Parts.{holds_limited, of_local}
+use Rattle.ideal_meaning.specs.CodeTypes.{IsOf, AreOf, Holds}
+use Rattle.ideal_meaning.proofs.Parts.{holds_limited, of_local}
 
 module _ (types : Table) (A : Ty → Value → Bool) where
   pub at_items : (Q : Value → Type 0) (n : ℕ) (t : Ty) (v : Value) → IsOf types A (VecTy n t) v → ((vs : Values) → AreOf types A (item_types n t) vs → Q (ItemsV vs)) → Q v

@@ -2,28 +2,27 @@
 use Rattle.std.proofs.Common.{◌≡◌, ◌⊎◌, inl, inr, ℕ, zero, suc, ◌+◌, ◌≤◌, ◌<◌, ◌^◌, Bool, true, false, not, List, [], ◌∷◌, ◌++◌, length, ℤ, pos, Some, unwrap_or, slice_get, refl, sym, ap, ◌∙◌, subst, arith, append_assoc, append-nil, if◌then◌else◌, lt-ltb}
 use Rattle.std.proofs.lemmas.Str.{IsUtf8-append}
 use Rattle.core_terms.specs.Types.{Ty, UnitTy, BoolTy, IntTy, TextTy, PairTy, NamedTy, AuthTy, VecTy, Table, fields_at, item_types}
-use Rattle.core_terms.specs.Formats.{Format, Hash, IsFormat}
+use Rattle.core_terms.specs.Formats.{Hash, IsFormat}
 use Rattle.core_terms.specs.Values.{Value, UnitV, BoolV, IntV, TextV, PairV, ConV, DigestV, ItemsV, Values, NoV, AndV, IsIdeal}
 use Rattle.core_terms.specs.Spelling.{spelling}
 use Rattle.core_terms.specs.Terms.{Program}
 use Rattle.core_terms.specs.Projection.{digest_at, projection, projections}
 use Rattle.ideal_meaning.specs.Run.{Run, Gives, Ends, IsOut, Rejects, with_fuel, local, join, arith_of, compare_of, text_compare_of, limited, fill_of, get_of, put_of, state_of}
 use Rattle.ideal_meaning.specs.Ideal.{Opened, ideal_mode}
-use Rattle.ideal_meaning.specs.PieceForms.{as_spelled}
-use Rattle.ideal_meaning.specs.Checked.{Taking, Cause, checked_mode, take_piece, digest_in}
-use Rattle.ideal_meaning.specs.Agreement.{as_checked, OffersOther, IsRefused}
+use Rattle.ideal_meaning.specs.PieceForms.{PieceForm}
+use Rattle.ideal_meaning.specs.Checked.{Taking, Cause, checked_mode_as, take_as, digest_in}
+use Rattle.ideal_meaning.specs.Agreement.{as_checked, OffersOtherAs, IsRefusedAs}
 use Rattle.ideal_meaning.proofs.InHand.{IsHeld, AreHeld, at_con, held_unit, held_bool, held_int, held_text, held_auth, held_local, local_projection, held_join, join_projection, held_pair, held_first, held_second, held_con, held_parts, held_elements, at_items}
 use Rattle.ideal_meaning.proofs.Relation.{InStep, Parted}
-use Rattle.ideal_meaning.proofs.Opening.{ReadsBack, opens}
+use Rattle.ideal_meaning.proofs.Opening.{IsFormOf, ReadsBackAs, opens}
 use Rattle.ideal_meaning.proofs.Simulation.{Both, both_limited, both_arith, both_fill, both_get, both_put}
-use Rattle.code_gen.specs.Instructions.{Instruction, PushUnit, PushBool, PushInt, PushText, Load, Bind, Unbind, Pair, Fst, Snd, Make, Switch, Branch, Jump, Call, Return, Auth, Unauth, ArithOp, CompareOp, TextCompareOp, Cat, Len, Not, VecFill, VecGet, VecPut}
-use Rattle.code_gen.specs.Code.{Body, FunctionCode, code_at, field_count}
-use Rattle.code_meaning.specs.Execution.{Coded, Ran, Stuck, then_code, then_coded, where_some, Held, held, tie, without_last, popped, Next, act, exec, call_code}
-use Rattle.code_meaning.specs.Accept.{Shape, shape, push_types, Fits, IsFine, IsAccepted}
-use Rattle.code_meaning.specs.CodeAgreement.{over}
-use Rattle.code_meaning.proofs.Parts.{last_dropped}
-use Rattle.code_meaning.proofs.OnlyAdds.{Adds, adds_exec, adds_call}
-use Rattle.code_meaning.proofs.Tied.{push_values, local_tied, join_tied, length_tied, pushed_tied, popped_even, even_held, even_projected, pushed_projected, held_split, held_pushed}
+use Rattle.core_terms.specs.Instructions.{Instruction, PushUnit, PushBool, PushInt, PushText, Load, Bind, Unbind, Pair, Fst, Snd, Make, Switch, Branch, Jump, Call, Return, Auth, Unauth, ArithOp, CompareOp, TextCompareOp, Cat, Len, Not, VecFill, VecGet, VecPut}
+use Rattle.core_terms.specs.Bodies.{Body, FunctionCode, code_at, field_count}
+use Rattle.ideal_meaning.specs.Execution.{Coded, Ran, Stuck, then_code, then_coded, where_some, Held, held, tie, without_last, popped, Next, act, exec, call_code}
+use Rattle.core_terms.specs.Accepted.{Shape, shape, push_types, Fits, IsFine, IsAccepted}
+use Rattle.ideal_meaning.proofs.Parts.{last_dropped}
+use Rattle.ideal_meaning.proofs.OnlyAdds.{Adds, adds_exec, adds_call}
+use Rattle.ideal_meaning.proofs.Tied.{push_values, local_tied, join_tied, length_tied, pushed_tied, popped_even, even_held, even_projected, pushed_projected, held_split, held_pushed}
 
 -- the parts of an ideal value of a known type
 module _ (types : Table) where
@@ -45,13 +44,10 @@ module _ (types : Table) where
 
 -- Of runs that began with the verifier at `began`. In all that follows k is the fuel left, s what was opened so far, w the
 -- verifier's state, y says that w fits s, and l and o that the locals and the operands are known as values in hand.
-module _ (hash : Hash) (format : Format) (is_format : IsFormat format) (Deep : Type 0) (began : Taking) (types : Table) (functions : List FunctionCode)
-    (reads_back : (t : Ty) (v : Value) → IsIdeal types t v → ReadsBack hash (over format types) t v) where
+module _ (hash : Hash) (P : Program) (form : PieceForm) (is_form : IsFormOf hash P form) (is_format : IsFormat P.format) (Deep : Type 0) (began : Taking) (functions : List FunctionCode)
+    (reads_back : (t : Ty) (v : Value) → IsIdeal P.types t v → ReadsBackAs hash P form t v) where
   abbrev B : Body
-  B = record { limit = format.limit; types = types; functions = functions }
-
-  abbrev P : Program
-  P = over format types
+  B = record { limit = P.format.limit; types = P.types; functions = functions }
 
   abbrev Opens : Type 0
   Opens = List Opened
@@ -69,14 +65,14 @@ module _ (hash : Hash) (format : Format) (is_format : IsFormat format) (Deep : T
   AllProjected ts vs = projections hash P ts vs
 
   abbrev Synced : List Opened → Taking → Type 0
-  Synced s w = InStep hash P (as_spelled hash P) Deep began s w
+  Synced s w = InStep hash P form Deep began s w
 
   abbrev Same : Ty → Run ⊥ (List Opened) Value → Run Cause Taking Value → Type 0
-  Same t r q = Both hash P (as_spelled hash P) is_format Deep began t r q
+  Same t r q = Both hash P form is_format Deep began t r q
 
   -- where neither is stuck, the runs agree at a value of type t
   abbrev pub Meets : Ty → Coded ⊥ (List Opened) → Coded Cause Taking → Type 0
-  Meets t c d = (r : Run ⊥ (List Opened) Value) (q : Run Cause Taking Value) → c ≡ Ran r → d ≡ Ran q → Both hash P (as_spelled hash P) is_format Deep began t r q
+  Meets t c d = (r : Run ⊥ (List Opened) Value) (q : Run Cause Taking Value) → c ≡ Ran r → d ≡ Ran q → Both hash P form is_format Deep began t r q
 
   meets : (t : Ty) (r : Run ⊥ (List Opened) Value) (q : Run Cause Taking Value) → Same t r q → Meets t (Ran r) (Ran q)
   meets t r q h r' q' e d =
@@ -87,7 +83,7 @@ module _ (hash : Hash) (format : Format) (is_format : IsFormat format) (Deep : T
   -- runs that have parted stay so, whatever follows
   parted_later : (t z : Ty) (ideal : Run ⊥ (List Opened) Value) (checked : Run Cause Taking Value) (g : Value → ℕ → Taking → Coded Cause Taking)
       (r : Run ⊥ (List Opened) Value) (q : Run Cause Taking Value)
-      → Parted hash P (as_spelled hash P) Deep began ideal checked → (added : List Opened) → state_of r ≡ state_of ideal ++ added → then_code checked g ≡ Ran q → Same z r q
+      → Parted hash P form Deep began ideal checked → (added : List Opened) → state_of r ≡ state_of ideal ++ added → then_code checked g ≡ Ran q → Same z r q
   parted_later t z ideal checked g r q p added grown d =
       inr (record {
         parts = record {
@@ -105,7 +101,7 @@ module _ (hash : Hash) (format : Format) (is_format : IsFormat format) (Deep : T
       ended : (stop : _) (k : ℕ) (w : Taking) → checked ≡ Ends stop k w → q ≡ Ends stop k w
       ended stop k w e = let f : Ran q ≡ Ran (Ends stop k w) = sym d ∙ ap (λ c. then_code c g) e in cc
 
-      later : OffersOther hash P p.parts.x p.parts.at ⊎ IsRefused hash P p.parts.x p.parts.at checked → OffersOther hash P p.parts.x p.parts.at ⊎ IsRefused hash P p.parts.x p.parts.at q
+      later : OffersOtherAs hash P form p.parts.x p.parts.at ⊎ IsRefusedAs hash P form p.parts.x p.parts.at checked → OffersOtherAs hash P form p.parts.x p.parts.at ⊎ IsRefusedAs hash P form p.parts.x p.parts.at q
       later (inl h) = inl h
       later (inr h) = inr (record { cause = h.cause; fuel = h.fuel; left = h.left; is = ended (Rejects h.cause) h.fuel h.left h.is; refused = h.refused; only = h.only })
 
@@ -211,14 +207,14 @@ module _ (hash : Hash) (format : Format) (is_format : IsFormat format) (Deep : T
   -- Instructions, where calls agree.
   module _ (z : Ty) (ideal_call : ℕ → Values → ℕ → List Opened → Coded ⊥ (List Opened)) (checked_call : ℕ → Values → ℕ → Taking → Coded Cause Taking)
       (adds : (f : ℕ) (vs : Values) (k : ℕ) (s : List Opened) → Adds s (ideal_call f vs k s))
-      (calls : (f : ℕ) (vs : Values) (k : ℕ) (s : List Opened) (w : Taking) → AreHeld P Deep (code_at B f).parameters vs → InStep hash P (as_spelled hash P) Deep began s w
+      (calls : (f : ℕ) (vs : Values) (k : ℕ) (s : List Opened) (w : Taking) → AreHeld P Deep (code_at B f).parameters vs → InStep hash P form Deep began s w
       → Meets (code_at B f).result (ideal_call f vs k s) (checked_call f (projections hash P (code_at B f).parameters vs) k w)) where
     -- one instruction, in each run
     abbrev ideal_act : Instruction → Next ⊥ (List Opened) → List Held → List Held → ℕ → List Opened → Coded ⊥ (List Opened)
     ideal_act i next env ops k s = act B ideal_mode ideal_call i next env ops k s
 
     abbrev checked_act : Instruction → Next Cause Taking → List Held → List Held → ℕ → Taking → Coded Cause Taking
-    checked_act i next env ops k w = act B (checked_mode hash P) checked_call i next env ops k w
+    checked_act i next env ops k w = act B (checked_mode_as hash P form) checked_call i next env ops k w
 
     -- what comes next agrees, wherever it may go on
     abbrev Goes : (ℕ → List Ty → List Ty → Type 0) → Next ⊥ (List Opened) → Next Cause Taking → Type 0
@@ -233,7 +229,7 @@ module _ (hash : Hash) (format : Format) (is_format : IsFormat format) (Deep : T
     acts (PushBool b) ls os to fit next next' grow go vs us k s w l o y = go 0 ls (BoolTy ∷ os) fit vs (AndV (BoolV b) us) k s w l (held_bool P is_format Deep b, o) y
     acts (PushInt n) ls os to fit next next' grow go vs us k s w l o y = go 0 ls (IntTy ∷ os) fit.1 vs (AndV (IntV n) us) k s w l (held_int P is_format Deep n fit.0, o) y
     acts (PushText bytes) ls os to fit next next' grow go vs us k s w l o y =
-        let short : 4 + length bytes ≤ format.limit = omega (arith, fit.1, is_format.limit_holds) in
+        let short : 4 + length bytes ≤ P.format.limit = omega (arith, fit.1, is_format.limit_holds) in
         go 0 ls (TextTy ∷ os) fit.2 vs (AndV (TextV bytes) us) k s w l (held_text P is_format Deep bytes fit.0 short, o) y
     acts (Load i) ls os to fit next next' grow go vs us k s w l o y =
         loads z ls i fit.0 fit.1 (λ x. next 0 (tie ls vs) (x ∷ tie os us) k s) (λ x. next' 0 (tie ls (AllProjected ls vs)) (x ∷ tie os (AllProjected os us)) k w) vs l
@@ -245,46 +241,46 @@ module _ (hash : Hash) (format : Format) (is_format : IsFormat format) (Deep : T
         fewer_locals z ls fit.0 fit.1 n fit.2 fit.3 (λ env. next 0 env (tie os us) k s) (λ env. next' 0 env (tie os (AllProjected os us)) k w)
         (λ xs a. go 0 fit.0 os fit.4 xs us k s w a o y) vs l
     acts Pair ls (b ∷ (a ∷ os)) to fit next next' grow go vs (AndV v (AndV u us)) k s w l o y =
-        after (PairTy a b) z (limited format.limit types (PairTy a b) (PairV u v) k s) (limited format.limit types (PairTy a b) (PairV (Projected a u) (Projected b v)) k w)
+        after (PairTy a b) z (limited P.format.limit P.types (PairTy a b) (PairV u v) k s) (limited P.format.limit P.types (PairTy a b) (PairV (Projected a u) (Projected b v)) k w)
         (λ x k s. next 0 (tie ls vs) (held (PairTy a b) x ∷ tie os us) k s) (λ x k w. next' 0 (tie ls (AllProjected ls vs)) (held (PairTy a b) x ∷ tie os (AllProjected os us)) k w)
-        (both_limited hash P (as_spelled hash P) is_format Deep began (PairTy a b) (PairV u v) (PairV (Projected a u) (Projected b v)) k s w refl (λ p q. held_pair P Deep a b u v o.1.0 o.0 p q) y)
+        (both_limited hash P form is_format Deep began (PairTy a b) (PairV u v) (PairV (Projected a u) (Projected b v)) k s w refl (λ p q. held_pair P Deep a b u v o.1.0 o.0 p q) y)
         (λ x k s. grow 0 _ _ k s) (λ x k s w h y. go 0 ls (PairTy a b ∷ os) fit vs (AndV x us) k s w l (h, o.1.1) y)
     acts Fst ls (PairTy a b ∷ os) to fit next next' grow go vs (AndV v us) k s w l o y =
-        at_pair types (λ v. Known (PairTy a b) v → Meets z (ideal_act Fst next (tie ls vs) (held (PairTy a b) v ∷ tie os us) k s)
+        at_pair P.types (λ v. Known (PairTy a b) v → Meets z (ideal_act Fst next (tie ls vs) (held (PairTy a b) v ∷ tie os us) k s)
         (checked_act Fst next' (tie ls (AllProjected ls vs)) (held (PairTy a b) (Projected (PairTy a b) v) ∷ tie os (AllProjected os us)) k w)) a b v o.0.ideal
         (λ x x' h. go 0 ls (a ∷ os) fit vs (AndV x us) k s w l (held_first P Deep a b (PairV x x') h, o.1) y) o.0
     acts Snd ls (PairTy a b ∷ os) to fit next next' grow go vs (AndV v us) k s w l o y =
-        at_pair types (λ v. Known (PairTy a b) v → Meets z (ideal_act Snd next (tie ls vs) (held (PairTy a b) v ∷ tie os us) k s)
+        at_pair P.types (λ v. Known (PairTy a b) v → Meets z (ideal_act Snd next (tie ls vs) (held (PairTy a b) v ∷ tie os us) k s)
         (checked_act Snd next' (tie ls (AllProjected ls vs)) (held (PairTy a b) (Projected (PairTy a b) v) ∷ tie os (AllProjected os us)) k w)) a b v o.0.ideal
         (λ x x' h. go 0 ls (b ∷ os) fit vs (AndV x' us) k s w l (held_second P Deep a b (PairV x x') h, o.1) y) o.0
     acts (Make number tag) ls os to fit next next' grow go vs us k s w l o y =
         let ts = fit.0 in
-        pops z (field_count types number tag) os ts fit.1 fit.3 (sym (ap (λ o. length (unwrap_or o [])) fit.2))
-        (λ xs ops. then_code (limited format.limit types (NamedTy number) (ConV tag xs) k s) (λ x k s. next 0 (tie ls vs) (held (NamedTy number) x ∷ ops) k s))
-        (λ xs ops. then_code (limited format.limit types (NamedTy number) (ConV tag xs) k w) (λ x k w. next' 0 (tie ls (AllProjected ls vs)) (held (NamedTy number) x ∷ ops) k w))
-        (λ xs rest a r. after (NamedTy number) z (limited format.limit types (NamedTy number) (ConV tag xs) k s) (limited format.limit types (NamedTy number) (ConV tag (AllProjected ts xs)) k w)
+        pops z (field_count P.types number tag) os ts fit.1 fit.3 (sym (ap (λ o. length (unwrap_or o [])) fit.2))
+        (λ xs ops. then_code (limited P.format.limit P.types (NamedTy number) (ConV tag xs) k s) (λ x k s. next 0 (tie ls vs) (held (NamedTy number) x ∷ ops) k s))
+        (λ xs ops. then_code (limited P.format.limit P.types (NamedTy number) (ConV tag xs) k w) (λ x k w. next' 0 (tie ls (AllProjected ls vs)) (held (NamedTy number) x ∷ ops) k w))
+        (λ xs rest a r. after (NamedTy number) z (limited P.format.limit P.types (NamedTy number) (ConV tag xs) k s) (limited P.format.limit P.types (NamedTy number) (ConV tag (AllProjected ts xs)) k w)
         (λ x k s. next 0 (tie ls vs) (held (NamedTy number) x ∷ tie fit.1 rest) k s)
         (λ x k w. next' 0 (tie ls (AllProjected ls vs)) (held (NamedTy number) x ∷ tie fit.1 (AllProjected fit.1 rest)) k w)
-        (both_limited hash P (as_spelled hash P) is_format Deep began (NamedTy number) (ConV tag xs) (ConV tag (AllProjected ts xs)) k s w (ap (λ o. ConV tag (AllProjected (unwrap_or o []) xs)) (sym fit.2))
+        (both_limited hash P form is_format Deep began (NamedTy number) (ConV tag xs) (ConV tag (AllProjected ts xs)) k s w (ap (λ o. ConV tag (AllProjected (unwrap_or o []) xs)) (sym fit.2))
         (λ p q. held_con P Deep number tag ts xs fit.2 a p q) y)
         (λ x k s. grow 0 _ _ k s) (λ x k s w h y. go 0 ls (NamedTy number ∷ fit.1) fit.4 vs (AndV x rest) k s w l (h, r) y)) us o
     acts (Switch number places) ls (NamedTy m ∷ os) to fit next next' grow go vs (AndV v us) k s w l o y =
-        at_con types (λ v. Known (NamedTy m) v → Meets z (ideal_act (Switch number places) next (tie ls vs) (held (NamedTy m) v ∷ tie os us) k s)
+        at_con P.types (λ v. Known (NamedTy m) v → Meets z (ideal_act (Switch number places) next (tie ls vs) (held (NamedTy m) v ∷ tie os us) k s)
         (checked_act (Switch number places) next' (tie ls (AllProjected ls vs)) (held (NamedTy m) (Projected (NamedTy m) v) ∷ tie os (AllProjected os us)) k w)) m v o.0.ideal
         (λ tag xs ts f ideals h.
-        let g : fields_at types number tag ≡ Some ts = ap (λ n. fields_at types n tag) (sym fit.0) ∙ f in
+        let g : fields_at P.types number tag ≡ Some ts = ap (λ n. fields_at P.types n tag) (sym fit.0) ∙ f in
         let d = fit.1 tag ts g in
         let F = λ (n : ℕ) (env : List Held). next n env (tie os us) k s in
         let G = λ (n : ℕ) (env : List Held). next' n env (tie os (AllProjected os us)) k w in
-        subst (λ p. Meets z (where_some p (λ n. F n (tie ls vs ++ tie (unwrap_or (fields_at types number tag) []) xs)))
-        (where_some p (λ n. G n (tie ls (AllProjected ls vs) ++ tie (unwrap_or (fields_at types number tag) []) (AllProjected (unwrap_or (fields_at types m tag) []) xs))))) (sym d.1)
+        subst (λ p. Meets z (where_some p (λ n. F n (tie ls vs ++ tie (unwrap_or (fields_at P.types number tag) []) xs)))
+        (where_some p (λ n. G n (tie ls (AllProjected ls vs) ++ tie (unwrap_or (fields_at P.types number tag) []) (AllProjected (unwrap_or (fields_at P.types m tag) []) xs))))) (sym d.1)
         (subst (λ p. Meets z (F d.0 (tie ls vs ++ tie (unwrap_or p []) xs))
-        (G d.0 (tie ls (AllProjected ls vs) ++ tie (unwrap_or p []) (AllProjected (unwrap_or (fields_at types m tag) []) xs)))) (sym g)
+        (G d.0 (tie ls (AllProjected ls vs) ++ tie (unwrap_or p []) (AllProjected (unwrap_or (fields_at P.types m tag) []) xs)))) (sym g)
         (subst (λ p. Meets z (F d.0 (tie ls vs ++ tie ts xs)) (G d.0 (tie ls (AllProjected ls vs) ++ tie ts (AllProjected (unwrap_or p []) xs)))) (sym f)
         (more_locals z ls ts vs xs (F d.0) (G d.0) l
         (go d.0 (ls ++ ts) os d.2 (join vs xs) us k s w (held_join P Deep ls ts vs xs l (held_parts P Deep m tag ts xs f ideals h)) o.1 y))))) o.0
     acts (Branch n) ls (BoolTy ∷ os) to fit next next' grow go vs (AndV v us) k s w l o y =
-        at_bool types (λ v. Meets z (ideal_act (Branch n) next (tie ls vs) (held BoolTy v ∷ tie os us) k s)
+        at_bool P.types (λ v. Meets z (ideal_act (Branch n) next (tie ls vs) (held BoolTy v ∷ tie os us) k s)
         (checked_act (Branch n) next' (tie ls (AllProjected ls vs)) (held BoolTy (Projected BoolTy v) ∷ tie os (AllProjected os us)) k w)) v o.0.ideal
         (λ b. branches z b n (λ n. next n (tie ls vs) (tie os us) k s) (λ n. next' n (tie ls (AllProjected ls vs)) (tie os (AllProjected os us)) k w)
         (go 0 ls os fit.0 vs us k s w l o.1 y) (go n ls os fit.1 vs us k s w l o.1 y))
@@ -308,72 +304,72 @@ module _ (hash : Hash) (format : Format) (is_format : IsFormat format) (Deep : T
         let F = λ (x : Value) (k : ℕ) (s : List Opened). next 0 (tie ls vs) (held t x ∷ tie os us) k s in
         let G = λ (x : Value) (k : ℕ) (w : Taking). next' 0 (tie ls (AllProjected ls vs)) (held t x ∷ tie os (AllProjected os us)) k w in
         let seen : List Opened = s ++ record { ty = t; value = v } ∷ [] in
-        subst (λ u. Known (AuthTy u) v → Meets z (then_code (Gives v k seen) F) (then_code (with_fuel k (take_piece hash P t (digest_in (Projected (AuthTy u) v)) w.place w.more w)) G)) (sym fit.0)
-        (λ h. after t z (Gives v k seen) (with_fuel k (take_piece hash P t (digest_in (Projected (AuthTy t) v)) w.place w.more w)) F G
-        (opens hash P (as_spelled hash P) (λ t bytes. refl) reads_back Deep began t v h k s w y) (λ x k s. grow 0 _ _ k s) (λ x k s w h y. go 0 ls (t ∷ os) fit.1 vs (AndV x us) k s w l (h, o.1) y)) o.0
+        subst (λ u. Known (AuthTy u) v → Meets z (then_code (Gives v k seen) F) (then_code (with_fuel k (take_as hash P form t (digest_in (Projected (AuthTy u) v)) w.place w.more w)) G)) (sym fit.0)
+        (λ h. after t z (Gives v k seen) (with_fuel k (take_as hash P form t (digest_in (Projected (AuthTy t) v)) w.place w.more w)) F G
+        (opens hash P form is_form reads_back Deep began t v h k s w y) (λ x k s. grow 0 _ _ k s) (λ x k s w h y. go 0 ls (t ∷ os) fit.1 vs (AndV x us) k s w l (h, o.1) y)) o.0
     acts (ArithOp op) ls (IntTy ∷ (IntTy ∷ os)) to fit next next' grow go vs (AndV v (AndV u us)) k s w l o y =
-        at_int types (λ u. Known IntTy u → Meets z (ideal_act (ArithOp op) next (tie ls vs) (held IntTy v ∷ (held IntTy u ∷ tie os us)) k s)
+        at_int P.types (λ u. Known IntTy u → Meets z (ideal_act (ArithOp op) next (tie ls vs) (held IntTy v ∷ (held IntTy u ∷ tie os us)) k s)
         (checked_act (ArithOp op) next' (tie ls (AllProjected ls vs)) (held IntTy (Projected IntTy v) ∷ (held IntTy (Projected IntTy u) ∷ tie os (AllProjected os us))) k w)) u o.1.0.ideal
-        (λ m h. at_int types (λ v. Meets z (ideal_act (ArithOp op) next (tie ls vs) (held IntTy v ∷ (held IntTy (IntV m) ∷ tie os us)) k s)
+        (λ m h. at_int P.types (λ v. Meets z (ideal_act (ArithOp op) next (tie ls vs) (held IntTy v ∷ (held IntTy (IntV m) ∷ tie os us)) k s)
         (checked_act (ArithOp op) next' (tie ls (AllProjected ls vs)) (held IntTy (Projected IntTy v) ∷ (held IntTy (IntV m) ∷ tie os (AllProjected os us))) k w)) v o.0.ideal
         (λ n. after IntTy z (arith_of op m n k s) (arith_of op m n k w) (λ x k s. next 0 (tie ls vs) (held IntTy x ∷ tie os us) k s)
         (λ x k w. next' 0 (tie ls (AllProjected ls vs)) (held IntTy x ∷ tie os (AllProjected os us)) k w)
-        (both_arith hash P (as_spelled hash P) is_format Deep began op m n k s w h.ideal y) (λ x k s. grow 0 _ _ k s) (λ x k s w h y. go 0 ls (IntTy ∷ os) fit vs (AndV x us) k s w l (h, o.1.1) y))) o.1.0
+        (both_arith hash P form is_format Deep began op m n k s w h.ideal y) (λ x k s. grow 0 _ _ k s) (λ x k s w h y. go 0 ls (IntTy ∷ os) fit vs (AndV x us) k s w l (h, o.1.1) y))) o.1.0
     acts (CompareOp op) ls (IntTy ∷ (IntTy ∷ os)) to fit next next' grow go vs (AndV v (AndV u us)) k s w l o y =
-        at_int types (λ u. Meets z (ideal_act (CompareOp op) next (tie ls vs) (held IntTy v ∷ (held IntTy u ∷ tie os us)) k s)
+        at_int P.types (λ u. Meets z (ideal_act (CompareOp op) next (tie ls vs) (held IntTy v ∷ (held IntTy u ∷ tie os us)) k s)
         (checked_act (CompareOp op) next' (tie ls (AllProjected ls vs)) (held IntTy (Projected IntTy v) ∷ (held IntTy (Projected IntTy u) ∷ tie os (AllProjected os us))) k w)) u o.1.0.ideal
-        (λ m. at_int types (λ v. Meets z (ideal_act (CompareOp op) next (tie ls vs) (held IntTy v ∷ (held IntTy (IntV m) ∷ tie os us)) k s)
+        (λ m. at_int P.types (λ v. Meets z (ideal_act (CompareOp op) next (tie ls vs) (held IntTy v ∷ (held IntTy (IntV m) ∷ tie os us)) k s)
         (checked_act (CompareOp op) next' (tie ls (AllProjected ls vs)) (held IntTy (Projected IntTy v) ∷ (held IntTy (IntV m) ∷ tie os (AllProjected os us))) k w)) v o.0.ideal
         (λ n. go 0 ls (BoolTy ∷ os) fit vs (AndV (BoolV (compare_of op m n)) us) k s w l (held_bool P is_format Deep (compare_of op m n), o.1.1) y))
     acts (TextCompareOp op) ls (TextTy ∷ (TextTy ∷ os)) to fit next next' grow go vs (AndV v (AndV u us)) k s w l o y =
-        at_text types (λ u. Meets z (ideal_act (TextCompareOp op) next (tie ls vs) (held TextTy v ∷ (held TextTy u ∷ tie os us)) k s)
+        at_text P.types (λ u. Meets z (ideal_act (TextCompareOp op) next (tie ls vs) (held TextTy v ∷ (held TextTy u ∷ tie os us)) k s)
         (checked_act (TextCompareOp op) next' (tie ls (AllProjected ls vs)) (held TextTy (Projected TextTy v) ∷ (held TextTy (Projected TextTy u) ∷ tie os (AllProjected os us))) k w)) u o.1.0.ideal
-        (λ m. at_text types (λ v. Meets z (ideal_act (TextCompareOp op) next (tie ls vs) (held TextTy v ∷ (held TextTy (TextV m) ∷ tie os us)) k s)
+        (λ m. at_text P.types (λ v. Meets z (ideal_act (TextCompareOp op) next (tie ls vs) (held TextTy v ∷ (held TextTy (TextV m) ∷ tie os us)) k s)
         (checked_act (TextCompareOp op) next' (tie ls (AllProjected ls vs)) (held TextTy (Projected TextTy v) ∷ (held TextTy (TextV m) ∷ tie os (AllProjected os us))) k w)) v o.0.ideal
         (λ n. go 0 ls (BoolTy ∷ os) fit vs (AndV (BoolV (text_compare_of op m n)) us) k s w l (held_bool P is_format Deep (text_compare_of op m n), o.1.1) y))
     acts Cat ls (TextTy ∷ (TextTy ∷ os)) to fit next next' grow go vs (AndV v (AndV u us)) k s w l o y =
-        at_text types (λ u. Known TextTy u → Meets z (ideal_act Cat next (tie ls vs) (held TextTy v ∷ (held TextTy u ∷ tie os us)) k s)
+        at_text P.types (λ u. Known TextTy u → Meets z (ideal_act Cat next (tie ls vs) (held TextTy v ∷ (held TextTy u ∷ tie os us)) k s)
         (checked_act Cat next' (tie ls (AllProjected ls vs)) (held TextTy (Projected TextTy v) ∷ (held TextTy (Projected TextTy u) ∷ tie os (AllProjected os us))) k w)) u o.1.0.ideal
-        (λ m i. at_text types (λ v. Known TextTy v → Meets z (ideal_act Cat next (tie ls vs) (held TextTy v ∷ (held TextTy (TextV m) ∷ tie os us)) k s)
+        (λ m i. at_text P.types (λ v. Known TextTy v → Meets z (ideal_act Cat next (tie ls vs) (held TextTy v ∷ (held TextTy (TextV m) ∷ tie os us)) k s)
         (checked_act Cat next' (tie ls (AllProjected ls vs)) (held TextTy (Projected TextTy v) ∷ (held TextTy (TextV m) ∷ tie os (AllProjected os us))) k w)) v o.0.ideal
-        (λ n j. after TextTy z (limited format.limit types TextTy (TextV (m ++ n)) k s) (limited format.limit types TextTy (TextV (m ++ n)) k w)
+        (λ n j. after TextTy z (limited P.format.limit P.types TextTy (TextV (m ++ n)) k s) (limited P.format.limit P.types TextTy (TextV (m ++ n)) k w)
         (λ x k s. next 0 (tie ls vs) (held TextTy x ∷ tie os us) k s) (λ x k w. next' 0 (tie ls (AllProjected ls vs)) (held TextTy x ∷ tie os (AllProjected os us)) k w)
-        (both_limited hash P (as_spelled hash P) is_format Deep began TextTy (TextV (m ++ n)) (TextV (m ++ n)) k s w refl (λ p q. held_text P is_format Deep (m ++ n) (IsUtf8-append m n i.ideal j.ideal) p) y)
+        (both_limited hash P form is_format Deep began TextTy (TextV (m ++ n)) (TextV (m ++ n)) k s w refl (λ p q. held_text P is_format Deep (m ++ n) (IsUtf8-append m n i.ideal j.ideal) p) y)
         (λ x k s. grow 0 _ _ k s) (λ x k s w h y. go 0 ls (TextTy ∷ os) fit vs (AndV x us) k s w l (h, o.1.1) y)) o.0) o.1.0
     acts Len ls (TextTy ∷ os) to fit next next' grow go vs (AndV v us) k s w l o y =
-        at_text types (λ v. Known TextTy v → Meets z (ideal_act Len next (tie ls vs) (held TextTy v ∷ tie os us) k s)
+        at_text P.types (λ v. Known TextTy v → Meets z (ideal_act Len next (tie ls vs) (held TextTy v ∷ tie os us) k s)
         (checked_act Len next' (tie ls (AllProjected ls vs)) (held TextTy (Projected TextTy v) ∷ tie os (AllProjected os us)) k w)) v o.0.ideal
         (λ m h.
-        let fits : 4 + length m ≤ format.limit = h.within.size_fits in
+        let fits : 4 + length m ≤ P.format.limit = h.within.size_fits in
         let low : length m < 2 ^ 63 = omega (arith, fits, is_format.limit_fits) in
         go 0 ls (IntTy ∷ os) fit vs (AndV (IntV (pos (length m))) us) k s w l (held_int P is_format Deep (pos (length m)) (lt-ltb (length m) (2 ^ 63) low), o.1) y) o.0
     acts Not ls (BoolTy ∷ os) to fit next next' grow go vs (AndV v us) k s w l o y =
-        at_bool types (λ v. Meets z (ideal_act Not next (tie ls vs) (held BoolTy v ∷ tie os us) k s)
+        at_bool P.types (λ v. Meets z (ideal_act Not next (tie ls vs) (held BoolTy v ∷ tie os us) k s)
         (checked_act Not next' (tie ls (AllProjected ls vs)) (held BoolTy (Projected BoolTy v) ∷ tie os (AllProjected os us)) k w)) v o.0.ideal
         (λ b. go 0 ls (BoolTy ∷ os) fit vs (AndV (BoolV (not b)) us) k s w l (held_bool P is_format Deep (not b), o.1) y)
     acts (VecFill n) ls (t ∷ os) to fit next next' grow go vs (AndV v us) k s w l o y =
-        after (VecTy n t) z (fill_of format.limit types n t v k s) (fill_of format.limit types n t (Projected t v) k w)
+        after (VecTy n t) z (fill_of P.format.limit P.types n t v k s) (fill_of P.format.limit P.types n t (Projected t v) k w)
         (λ x k s. next 0 (tie ls vs) (held (VecTy n t) x ∷ tie os us) k s) (λ x k w. next' 0 (tie ls (AllProjected ls vs)) (held (VecTy n t) x ∷ tie os (AllProjected os us)) k w)
-        (both_fill hash P (as_spelled hash P) is_format Deep began n t v k s w o.0 y) (λ x k s. grow 0 _ _ k s) (λ x k s w h y. go 0 ls (VecTy n t ∷ os) fit.1 vs (AndV x us) k s w l (h, o.1) y)
+        (both_fill hash P form is_format Deep began n t v k s w o.0 y) (λ x k s. grow 0 _ _ k s) (λ x k s w h y. go 0 ls (VecTy n t ∷ os) fit.1 vs (AndV x us) k s w l (h, o.1) y)
     acts VecGet ls (IntTy ∷ (VecTy n t ∷ os)) to fit next next' grow go vs (AndV i (AndV u us)) k s w l o y =
-        at_items types (λ u. Known (VecTy n t) u → Meets z (ideal_act VecGet next (tie ls vs) (held IntTy i ∷ (held (VecTy n t) u ∷ tie os us)) k s)
+        at_items P.types (λ u. Known (VecTy n t) u → Meets z (ideal_act VecGet next (tie ls vs) (held IntTy i ∷ (held (VecTy n t) u ∷ tie os us)) k s)
         (checked_act VecGet next' (tie ls (AllProjected ls vs)) (held IntTy (Projected IntTy i) ∷ (held (VecTy n t) (Projected (VecTy n t) u) ∷ tie os (AllProjected os us))) k w)) n t u o.1.0.ideal
-        (λ es a h. at_int types (λ i. Meets z (ideal_act VecGet next (tie ls vs) (held IntTy i ∷ (held (VecTy n t) (ItemsV es) ∷ tie os us)) k s)
+        (λ es a h. at_int P.types (λ i. Meets z (ideal_act VecGet next (tie ls vs) (held IntTy i ∷ (held (VecTy n t) (ItemsV es) ∷ tie os us)) k s)
         (checked_act VecGet next' (tie ls (AllProjected ls vs)) (held IntTy (Projected IntTy i) ∷ (held (VecTy n t) (ItemsV (AllProjected (item_types n t) es)) ∷ tie os (AllProjected os us))) k w)) i o.0.ideal
         (λ c. after t z (get_of n es c k s) (get_of n (AllProjected (item_types n t) es) c k w)
         (λ x k s. next 0 (tie ls vs) (held t x ∷ tie os us) k s) (λ x k w. next' 0 (tie ls (AllProjected ls vs)) (held t x ∷ tie os (AllProjected os us)) k w)
-        (both_get hash P (as_spelled hash P) is_format Deep began n t es c k s w (held_elements P Deep n t es a h) y) (λ x k s. grow 0 _ _ k s)
+        (both_get hash P form is_format Deep began n t es c k s w (held_elements P Deep n t es a h) y) (λ x k s. grow 0 _ _ k s)
         (λ x k s w h y. go 0 ls (t ∷ os) fit vs (AndV x us) k s w l (h, o.1.1) y))) o.1.0
     acts VecPut ls (t' ∷ (IntTy ∷ (VecTy n t ∷ os))) to fit next next' grow go vs (AndV v (AndV i (AndV u us))) k s w l o y =
         subst (λ t'. Known t' v → Meets z (ideal_act VecPut next (tie ls vs) (held t' v ∷ (held IntTy i ∷ (held (VecTy n t) u ∷ tie os us))) k s)
         (checked_act VecPut next' (tie ls (AllProjected ls vs)) (held t' (Projected t' v) ∷ (held IntTy (Projected IntTy i) ∷ (held (VecTy n t) (Projected (VecTy n t) u) ∷ tie os (AllProjected os us)))) k w)) (sym fit.0)
-        (λ hv. at_items types (λ u. Known (VecTy n t) u → Meets z (ideal_act VecPut next (tie ls vs) (held t v ∷ (held IntTy i ∷ (held (VecTy n t) u ∷ tie os us))) k s)
+        (λ hv. at_items P.types (λ u. Known (VecTy n t) u → Meets z (ideal_act VecPut next (tie ls vs) (held t v ∷ (held IntTy i ∷ (held (VecTy n t) u ∷ tie os us))) k s)
         (checked_act VecPut next' (tie ls (AllProjected ls vs)) (held t (Projected t v) ∷ (held IntTy (Projected IntTy i) ∷ (held (VecTy n t) (Projected (VecTy n t) u) ∷ tie os (AllProjected os us)))) k w)) n t u o.1.1.0.ideal
-        (λ es a h. at_int types (λ i. Meets z (ideal_act VecPut next (tie ls vs) (held t v ∷ (held IntTy i ∷ (held (VecTy n t) (ItemsV es) ∷ tie os us))) k s)
+        (λ es a h. at_int P.types (λ i. Meets z (ideal_act VecPut next (tie ls vs) (held t v ∷ (held IntTy i ∷ (held (VecTy n t) (ItemsV es) ∷ tie os us))) k s)
         (checked_act VecPut next' (tie ls (AllProjected ls vs)) (held t (Projected t v) ∷ (held IntTy (Projected IntTy i) ∷ (held (VecTy n t) (ItemsV (AllProjected (item_types n t) es)) ∷ tie os (AllProjected os us)))) k w)) i o.1.0.ideal
-        (λ c. after (VecTy n t) z (put_of format.limit types n t es c v k s) (put_of format.limit types n t (AllProjected (item_types n t) es) c (Projected t v) k w)
+        (λ c. after (VecTy n t) z (put_of P.format.limit P.types n t es c v k s) (put_of P.format.limit P.types n t (AllProjected (item_types n t) es) c (Projected t v) k w)
         (λ x k s. next 0 (tie ls vs) (held (VecTy n t) x ∷ tie os us) k s) (λ x k w. next' 0 (tie ls (AllProjected ls vs)) (held (VecTy n t) x ∷ tie os (AllProjected os us)) k w)
-        (both_put hash P (as_spelled hash P) is_format Deep began n t es c v k s w (held_elements P Deep n t es a h) hv y) (λ x k s. grow 0 _ _ k s)
+        (both_put hash P form is_format Deep began n t es c v k s w (held_elements P Deep n t es a h) hv y) (λ x k s. grow 0 _ _ k s)
         (λ x k s w h y. go 0 ls (VecTy n t ∷ os) fit.1 vs (AndV x us) k s w l (h, o.1.1.1) y))) o.1.1.0) o.0
     acts i ls (c ∷ (b ∷ (a ∷ os))) to fit next next' grow go vs (AndV v (AndV u NoV)) k s w l o y = elim o.1.1 [ ]
     acts i ls (b ∷ (a ∷ os)) to fit next next' grow go vs (AndV u NoV) k s w l o y = elim o.1 [ ]
@@ -383,7 +379,7 @@ module _ (hash : Hash) (format : Format) (is_format : IsFormat format) (Deep : T
     goes : (is : List Instruction) (shapes : List Shape) → IsFine B z is shapes → (skip : ℕ) (ls os : List Ty) → slice_get shapes skip ≡ Some (shape ls os)
         → (vs us : Values) (k : ℕ) (s : List Opened) (w : Taking) → AllKnown ls vs → AllKnown os us → Synced s w
         → Meets z (exec B ideal_mode ideal_call is skip (tie ls vs) (tie os us) k s)
-        (exec B (checked_mode hash P) checked_call is skip (tie ls (AllProjected ls vs)) (tie os (AllProjected os us)) k w)
+        (exec B (checked_mode_as hash P form) checked_call is skip (tie ls (AllProjected ls vs)) (tie os (AllProjected os us)) k w)
     goes [] [] f skip ls os at vs us k s w l o y = absurd (cc)
     goes [] (sh ∷ shapes) f skip ls os at vs us k s w l o y = elim f [ ]
     goes (i ∷ is) [] f skip ls os at vs us k s w l o y = elim f [ ]
@@ -391,17 +387,17 @@ module _ (hash : Hash) (format : Format) (is_format : IsFormat format) (Deep : T
         let same : sh ≡ shape ls os = cc in
         acts i ls os (λ n ls os. slice_get shapes n ≡ Some (shape ls os))
         (subst (λ (sh : Shape). Fits B z i sh.locals sh.operands (λ n ls os. slice_get shapes n ≡ Some (shape ls os))) same f.0)
-        (exec B ideal_mode ideal_call is) (exec B (checked_mode hash P) checked_call is) (adds_exec B ideal_call adds is)
+        (exec B ideal_mode ideal_call is) (exec B (checked_mode_as hash P form) checked_call is) (adds_exec B ideal_call adds is)
         (λ n ls os t vs us k s w l o y. goes is shapes f.1 n ls os t vs us k s w l o y) vs us k s w l o y
     goes (i ∷ is) (sh ∷ shapes) f (suc skip) ls os at vs us k s w l o y = goes is shapes f.1 skip ls os at vs us k s w l o y
 
   -- calls of accepted code, with any bound on nesting, wherever the runs stand
-  pub called : IsAccepted B → (n f : ℕ) (vs : Values) (k : ℕ) (s : List Opened) (w : Taking) → AreHeld P Deep (code_at B f).parameters vs → InStep hash P (as_spelled hash P) Deep began s w
-      → Meets (code_at B f).result (call_code B ideal_mode n f vs k s) (call_code B (checked_mode hash P) n f (projections hash P (code_at B f).parameters vs) k w)
+  pub called : IsAccepted B → (n f : ℕ) (vs : Values) (k : ℕ) (s : List Opened) (w : Taking) → AreHeld P Deep (code_at B f).parameters vs → InStep hash P form Deep began s w
+      → Meets (code_at B f).result (call_code B ideal_mode n f vs k s) (call_code B (checked_mode_as hash P form) n f (projections hash P (code_at B f).parameters vs) k w)
   called accepted zero f vs k s w h y = meets (code_at B f).result (Ends IsOut k s) (Ends IsOut k w) (inl (w, refl, y))
   called accepted (suc n) f vs zero s w h y = meets (code_at B f).result (Ends IsOut 0 s) (Ends IsOut 0 w) (inl (w, refl, y))
   called accepted (suc n) f vs (suc k) s w h y =
       let g = code_at B f in
       let fine = accepted f in
-      goes g.result (call_code B ideal_mode n) (call_code B (checked_mode hash P) n) (adds_call B n) (called accepted n)
+      goes g.result (call_code B ideal_mode n) (call_code B (checked_mode_as hash P form) n) (adds_call B n) (called accepted n)
       g.code fine.0 fine.1 0 g.parameters [] fine.2 vs NoV k s w h tt y

@@ -1,5 +1,0 @@
-use Rattle.code_meaning.proofs.Agreed
-use Rattle.code_meaning.proofs.laws.code_agreement.Goals as goal
-
-pub returns : goal.returns
-returns c = Agreed.code_agreement
