@@ -2,6 +2,7 @@
 pub mod Named
 -- of all four laws: how a run is followed, that more fuel changes nothing, what a call gives then, how a map is kept
 pub mod Stepping
+pub mod CodeMoreFuel
 pub mod MoreFuel
 pub mod Settled
 pub mod Maps

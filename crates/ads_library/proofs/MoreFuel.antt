@@ -1,12 +1,15 @@
 -- More fuel changes nothing but for runs that want it: by induction on the bound of nested calls, and on the expression.
-use Rattle.std.proofs.Common.{◌≡◌, ℕ, zero, suc, ◌+◌, Bool, true, false, ◌++◌, ℤ, pos, negsuc, ◌+ℤ◌, ◌-ℤ◌, ◌*ℤ◌, int_div, int_rem, nat_lt, refl, arith, if◌then◌else◌}
+use Rattle.std.proofs.Common.{◌≡◌, ℕ, zero, suc, ◌+◌, Bool, true, false, ◌++◌, ℤ, pos, negsuc, ◌+ℤ◌, ◌-ℤ◌, ◌*ℤ◌, int_div, int_rem, nat_lt, refl, arith, if◌then◌else◌, List, Option, Some, None}
 use Rattle.core_terms.specs.Types.{Ty, PairTy, NamedTy, TextTy, VecTy}
 use Rattle.core_terms.specs.Formats.{depth_limit}
 use Rattle.core_terms.specs.Values.{Value, TextV, PairV, ConV, ItemsV, Values, NoV, AndV, size, depth, int_fits}
-use Rattle.core_terms.specs.Terms.{Expression, UnitE, BoolE, IntE, TextE, LocalE, PairE, FstE, SndE, NotE, LenE, AuthE, UnauthE, ConE, ArithE, CompareE, TextCompareE, CatE, LetE, IfE, MatchE, CallE, OperateE, Operation, VecFill, VecGet, VecPut, Expressions, NoE, AndE, Arms, NoArm, AndArm, Program, function_at}
+use Rattle.core_terms.specs.Terms.{Expression, UnitE, BoolE, IntE, TextE, LocalE, PairE, FstE, SndE, NotE, LenE, AuthE, UnauthE, ConE, ArithE, CompareE, TextCompareE, CatE, LetE, IfE, MatchE, CallE, OperateE, Operation, VecFill, VecGet, VecPut, Expressions, NoE, AndE, Arms, NoArm, AndArm, Program, function_at, body_of}
 use Rattle.core_terms.specs.declared.term.Arith.{Arith}
 use Rattle.core_terms.specs.declared.term.Arith.TheVariants.{Add, Sub, Mul, Div, Rem}
 use Rattle.ideal_meaning.specs.Run.{Traps, IsOut, Rejects, Run, Gives, Ends, Opening, Opens, Refuses, with_fuel, Mode, then_run, divided, arith_of, choose, limited, at_index, operate, local, items_in, repeated, replaced, run, run_all, run_arm, call, bool_in, int_in, text_in, tag_in, fields_in, join}
+use Rattle.core_terms.specs.Instructions.{Instruction}
+use Rattle.ideal_meaning.specs.Called.{call_as}
+use Rattle.ads_library.proofs.CodeMoreFuel.{code_more}
 use Rattle.ads_library.specs.MoreFuel.{IsWithMore, MoreFuel}
 
 module _ (C W : Type 0) (j : ℕ) where
@@ -112,5 +115,10 @@ module _ (C W : Type 0) (j : ℕ) where
         let g : suc k + j ≡ suc (k + j) = omega arith in
         rw (e, g) (runs (call P mode n) (call P mode (n + j)) (calls n) (function_at P f).body vs k w)
 
+-- of programs that are written and of those that are compiled
 pub more_fuel : (C W : Type 0) → MoreFuel C W
-more_fuel C W P mode f args k j w = calls C W j P mode k f args k w
+more_fuel C W P mode f args k j w = by P.code
+  where
+    by : (o : Option (List (List Instruction))) → IsWithMore j (call_as P o mode k f args k w) (call_as P o mode (k + j) f args (k + j) w)
+    by None = calls C W j P mode k f args k w
+    by (Some codes) = code_more C W j (body_of P codes) mode f args k w

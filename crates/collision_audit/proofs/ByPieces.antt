@@ -15,7 +15,7 @@ use Rattle.ideal_meaning.specs.Headline.{call_of}
 use Rattle.ideal_meaning.specs.Ideal.{Opened, Outcome, Piece, honest_bytes, honest_piece, honest_pieces, ideal, outcome, outcome_projection}
 use Rattle.ideal_meaning.specs.PieceForms.{as_spelled}
 use Rattle.ideal_meaning.specs.Run.{Refuses, Run, state_of}
-use Rattle.ideal_meaning.proofs.Calls.{calls_agree}
+use Rattle.ideal_meaning.proofs.AgreeFrom.{calls_agree}
 use Rattle.ideal_meaning.proofs.InHand.{IsHeld}
 use Rattle.ideal_meaning.proofs.Judged.{IsSame, same_judged, same_state}
 use Rattle.ideal_meaning.proofs.Opening.{ReadsBack}
@@ -258,7 +258,7 @@ module _ (hash : Hash) (is_hash : IsHash hash) (P : Program) (format : IsFormat 
         by (inr r) b h q = refused r b.place b.left b.more h q
 
   pub judged_by_pieces : Audits seen
-  judged_by_pieces = by (calls_agree hash P format typed (reads_back hash is_hash P format) (Unit {0}) began k f args k ideals fits (λ l. deep))
+  judged_by_pieces = by (calls_agree hash is_hash P format typed (reads_back hash is_hash P format) (Unit {0}) began f args k ideals fits (λ l. deep))
     where
       by : Agree hash P (as_spelled hash P) (Unit {0}) began (IsHeld P (Unit {0}) (function_at P f).result) (projection hash P (function_at P f).result) (ideal P f args k) run' → Audits seen
       by (inl same) = same_all same

@@ -10,7 +10,6 @@ pub mod FrontOffers
 pub mod FrontAudits
 pub mod Refusals
 -- the law `by_pieces`
-pub mod Stepping
 pub mod Reaching
 pub mod ByPieces
 -- take

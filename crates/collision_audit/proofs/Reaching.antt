@@ -9,7 +9,7 @@ use Rattle.core_terms.specs.Values.{Value, Values}
 use Rattle.ideal_meaning.specs.Checked.{Cause, Taking, WrongPiece, checked, checked_mode, digest_in, opened, take_piece}
 use Rattle.ideal_meaning.specs.Frames.{NoMore, Offer, Offers}
 use Rattle.ideal_meaning.specs.Run.{Refuses, state_of, with_fuel}
-use Rattle.collision_audit.proofs.Stepping.{goes_call}
+use Rattle.ideal_meaning.proofs.CodeStepping.{call_moves}
 
 -- behind j pieces a verifier at `a` is at `b`
 abbrev pub ReachesIn : ℕ → Taking → Taking → Type 0
@@ -64,5 +64,5 @@ module _ (hash : Hash) (P : Program) where
   -- and so where a checked run ends
   pub run_reaches : (f : ℕ) (args : Values) (k : ℕ) (began : Taking) → Reaches began (state_of (checked hash P f args k began))
   run_reaches f args k began =
-      (goes_call Cause Taking (checked_mode hash P) Reaches (λ w. (0, refl)) (λ a b c h j. reaches_more h.0 a b c h.1 j)
-      (λ k t v w. takes k t (digest_in v) w.place w.left w.more) P k f args k began).moves
+      call_moves Cause Taking (checked_mode hash P) Reaches (λ w. (0, refl)) (λ a b c h j. reaches_more h.0 a b c h.1 j)
+      (λ k t v w. takes k t (digest_in v) w.place w.left w.more) P f args k began

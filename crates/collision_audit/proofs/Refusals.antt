@@ -235,7 +235,7 @@ module _ (hash : Hash) (is_hash : IsHash hash) (P : Program) (format : IsFormat 
   judged_rejected : (bytes : List ℕ) (n i : ℕ) → FirstDifferAt (offered_pieces (offered P.format.limit bytes n [])) (pieces_of hash P seen) i
       → first_split hash P.format (offered_pieces (offered P.format.limit bytes n [])) (pieces_of hash P seen) ≡ None
       → IsRejected hash P (before_all (length bytes) (offered P.format.limit bytes n [])) seen i (judge hash P f (projections hash P (function_at P f).parameters args) k bytes n [])
-  judged_rejected bytes n i differ none = by (agreement hash is_hash P format typed k f args k began ideals fits)
+  judged_rejected bytes n i differ none = by (agreement hash is_hash P format typed f args k began ideals fits)
     where
       began : Taking
       began = before_all (length bytes) (offered P.format.limit bytes n [])

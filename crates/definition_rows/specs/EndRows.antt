@@ -1,6 +1,6 @@
 -- How a run ends (`Run`, `Ideal`, `Agreement`, `Table`): the fuel that is left, the outcome, and where a new value is too big or too deep. Each
 -- equation holds by computing both sides.
-use Rattle.std.specs.Prelude.{◌≡◌, ℕ, List, [], ◌∷◌, true, pos, negsuc}
+use Rattle.std.specs.Prelude.{◌≡◌, ℕ, List, [], ◌∷◌, true, pos, negsuc, None}
 use Rattle.core_terms.specs.Types.{Ty, UnitTy, BoolTy, IntTy, TextTy, PairTy}
 use Rattle.core_terms.specs.Formats.{Hash}
 use Rattle.core_terms.specs.Values.{Value, UnitV, BoolV, IntV, TextV, PairV, NoV}
@@ -25,7 +25,7 @@ of_two_types = program two_types UnitTy []
 
 -- an expression alone, where a spelling has at most 9 bytes
 abbrev pub in_nine_bytes : Expression → Run ⊥ (List Opened) Value
-in_nine_bytes e = ideal (record { format = other_format; types = two_types; state = UnitTy; functions = function [] Inner [] UnitTy e ∷ [] }) 0 NoV 1
+in_nine_bytes e = ideal (record { format = other_format; types = two_types; state = UnitTy; functions = function [] Inner [] UnitTy e ∷ []; code = None }) 0 NoV 1
 
 -- a function that calls another twice
 abbrev pub calling_twice : Program

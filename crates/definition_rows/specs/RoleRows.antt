@@ -1,5 +1,5 @@
 -- The roles of a program (`Roles`, `Typing`): what each kind takes and gives, and what is no role; and which types have two numbers (`TypeTables`).
-use Rattle.std.specs.Prelude.{◌≡◌, ℕ, [], ◌∷◌, true, false}
+use Rattle.std.specs.Prelude.{◌≡◌, ℕ, [], ◌∷◌, true, false, None}
 use Rattle.core_terms.specs.Types.{Ty, UnitTy, BoolTy, IntTy, TextTy, PairTy, NamedTy, AuthTy, Table}
 use Rattle.core_terms.specs.Formats.{first_format}
 use Rattle.core_terms.specs.Terms.{Inner, Init, Query, Update, Function, Kind, Program}
@@ -15,7 +15,7 @@ abbrev pub giving_both : Function
 giving_both = declared [] Query (BoolTy ∷ UnitTy ∷ []) (PairTy BoolTy UnitTy)
 
 abbrev pub of_one : Program
-of_one = record { format = first_format 0; types = []; state = BoolTy; functions = giving_both ∷ [] }
+of_one = record { format = first_format 0; types = []; state = BoolTy; functions = giving_both ∷ []; code = None }
 
 -- a chain of two named types, of which the second holds an authenticated int
 abbrev pub chain : Table
@@ -23,7 +23,7 @@ chain = ((NamedTy 1 ∷ []) ∷ []) ∷ ((AuthTy IntTy ∷ []) ∷ []) ∷ []
 
 -- a query, and another of which the state isn't that of the program
 abbrev pub two_queries : Program
-two_queries = record { format = first_format 0; types = []; state = BoolTy; functions = giving_both ∷ declared [] Query (IntTy ∷ UnitTy ∷ []) BoolTy ∷ [] }
+two_queries = record { format = first_format 0; types = []; state = BoolTy; functions = giving_both ∷ declared [] Query (IntTy ∷ UnitTy ∷ []) BoolTy ∷ []; code = None }
 
 pub record RoleRows : Type 0 where
   -- what a role takes and gives, where the state is a bool and the rest an int

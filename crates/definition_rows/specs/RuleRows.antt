@@ -1,5 +1,5 @@
 -- The typing rules (`Terms`): each form where it has its type, and what has none.
-use Rattle.std.specs.Prelude.{[], ◌∷◌, true, pos, replicate}
+use Rattle.std.specs.Prelude.{[], ◌∷◌, true, pos, replicate, None}
 use Rattle.core_terms.specs.Types.{Ty, UnitTy, BoolTy, IntTy, TextTy, PairTy, NamedTy, AuthTy}
 use Rattle.core_terms.specs.Formats.{first_format}
 use Rattle.core_terms.specs.Terms.{Expression, UnitE, BoolE, IntE, TextE, LocalE, PairE, FstE, SndE, NotE, LenE, AuthE, UnauthE, ConE, ArithE, CompareE, TextCompareE, CatE, LetE, IfE, MatchE, CallE, NoE, AndE, NoArm, AndArm, Inner, Program, HasType, IsTyped}
@@ -14,7 +14,7 @@ Takes e t = HasType small (IntTy ∷ BoolTy ∷ TextTy ∷ PairTy IntTy TextTy �
 
 -- a function without parameters, whose body is a local
 abbrev pub of_no_local : Program
-of_no_local = record { format = first_format 0; types = []; state = UnitTy; functions = record { name = []; kind = Inner; parameters = []; result = UnitTy; body = LocalE 0 } ∷ [] }
+of_no_local = record { format = first_format 0; types = []; state = UnitTy; functions = record { name = []; kind = Inner; parameters = []; result = UnitTy; body = LocalE 0 } ∷ []; code = None }
 
 pub record RuleRows : Type 0 where
   pub literals : Takes UnitE UnitTy × Takes (BoolE true) BoolTy × Takes (IntE (pos 5)) IntTy × Takes (TextE []) TextTy

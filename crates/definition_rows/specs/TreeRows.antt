@@ -1,5 +1,5 @@
 -- What a program of the code stands for (`ProgramTrees`, `ProgramTypes`, `Programs`, `TypeNames`).
-use Rattle.std.specs.Prelude.{◌≡◌, ℕ, List, [], ◌∷◌, true, false, map}
+use Rattle.std.specs.Prelude.{◌≡◌, ℕ, List, [], ◌∷◌, true, false, map, None}
 use Rattle.core_terms.specs.Types.{Ty, UnitTy, BoolTy, IntTy, AuthTy}
 use Rattle.core_terms.specs.Names.{IsName}
 use Rattle.core_terms.specs.Terms.{UnitE, LocalE, NoE, AndE, NoArm, AndArm}
@@ -61,4 +61,4 @@ pub record TreeRows : Type 0 where
   pub functions_of_program_types : (t : Types) (functions : List Function) → (program_with t functions).functions ≡ map (function_of (types_by_number t)) functions
   pub functions_of_a_program : (p : Program) → (meaning p).functions ≡ map (function_of (types_of p)) p.functions.items
   pub types_alone_have_no_function : (t : Types) → (types_meaning t).functions ≡ []
-  pub program_without_functions : (format : Format) → program_of format (UnitForm ∷ BoolForm ∷ []) [] (record { 0 = 1 }) [] ≡ record { format = format_with format []; types = []; state = BoolTy; functions = [] }
+  pub program_without_functions : (format : Format) → program_of format (UnitForm ∷ BoolForm ∷ []) [] (record { 0 = 1 }) [] ≡ record { format = format_with format []; types = []; state = BoolTy; functions = []; code = None }

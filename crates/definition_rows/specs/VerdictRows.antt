@@ -17,7 +17,7 @@ use Rattle.ideal_meaning.specs.ExampleProofs.{file, on_open}
 
 -- a program in a format whose digests tell whether the type is an authenticated one, with spellings of up to 40 bytes
 abbrev pub tagged_program : Program
-tagged_program = record { format = record { digest = tagged; print = λ hash t. None; limit = 40; magic = []; image_magic = replicate 4 0; most_kept = 0; arrays = false }; types = []; state = UnitTy; functions = [] }
+tagged_program = record { format = record { digest = tagged; print = λ hash t. None; limit = 40; magic = []; image_magic = replicate 4 0; most_kept = 0; arrays = false }; types = []; state = UnitTy; functions = []; code = None }
 
 -- the honest piece of a pair of true and false
 abbrev pub honest : Piece

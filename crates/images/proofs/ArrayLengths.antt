@@ -7,7 +7,7 @@ use Rattle.core_terms.specs.TypeTables.{is_in_order, stands_behind, type_of_form
 use Rattle.core_terms.specs.declared.types.TyForm.{TyForm}
 use Rattle.core_terms.specs.declared.types.TyForm.TheVariants.{UnitForm, BoolForm, IntForm, TextForm, AuthForm, PairForm, NamedForm, VecForm}
 use Rattle.core_terms.specs.declared.program_types.Types.{Types}
-use Rattle.core_terms.proofs.TypingSound.{first_of, second_of}
+use Rattle.core_terms.proofs.SameTypes.{first_of, second_of}
 use Rattle.images.specs.Parts.{HasLength, is_part}
 use Rattle.images.specs.PartMarks.{ArePartMarks, type_of}
 

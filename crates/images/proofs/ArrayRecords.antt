@@ -9,7 +9,7 @@ use Rattle.core_terms.specs.ProgramTrees.{are_below, types_at}
 use Rattle.core_terms.specs.TypeTables.{type_at}
 use Rattle.core_terms.specs.declared.program_types.Types.{Types}
 use Rattle.core_terms.specs.declared.types.TyId.{TyId}
-use Rattle.core_terms.proofs.TypingSound.{second_of}
+use Rattle.core_terms.proofs.SameTypes.{second_of}
 use Rattle.core_terms.proofs.TypingComplete.{both}
 use Rattle.images.specs.PartMarks.{ArePartMarks}
 use Rattle.images.specs.Images.{Entry, entry, Loading, FaultyImage, BadRecord, TooBig, TooDeep, array_from, checked_entry, fields_from, stands_for, within_limits}

@@ -3,8 +3,7 @@ use Rattle.std.proofs.Common.{◌≡◌, ℕ, ◌+◌, max, Bool, true, false, L
 use Rattle.std.proofs.lemmas.Option.{slice_get-get_or}
 use Rattle.std.specs.List.{list_all}
 use Rattle.std.specs.Option.{option_and_then, option_map}
-use Rattle.core_terms.specs.Types.{Ty, UnitTy}
-use Rattle.core_terms.specs.Typing.{same_type}
+use Rattle.core_terms.specs.Types.{Ty, UnitTy, same_type}
 use Rattle.core_terms.specs.ProgramTypes.{types_by_number, types_meaning}
 use Rattle.core_terms.specs.ProgramTrees.{are_below, types_at}
 use Rattle.core_terms.specs.TypeTables.{type_at}
@@ -12,7 +11,7 @@ use Rattle.core_terms.specs.Values.{Values, NoV, AndV, sizes, depths}
 use Rattle.core_terms.specs.declared.types.TyId.{TyId}
 use Rattle.core_terms.specs.declared.program_types.Types.{Types}
 use Rattle.core_terms.proofs.TypingComplete.{both}
-use Rattle.core_terms.proofs.TypingSound.{first_of, second_of, same_sound}
+use Rattle.core_terms.proofs.SameTypes.{first_of, second_of, same_sound}
 use Rattle.images.specs.Images.{Entry, fields_from}
 use Rattle.value_store.specs.CodeNodes.{numbers_of}
 use Rattle.value_store.specs.Markings.{Marking, kind_of}

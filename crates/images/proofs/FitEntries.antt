@@ -117,6 +117,7 @@ with_limit P limit = record {
   types = P.types;
   state = P.state;
   functions = P.functions;
+  code = P.code;
 }
 
 -- The types of all that a walk meets are parts of the state's, whatever the limit of the nodes is.

@@ -11,10 +11,9 @@ use Rattle.std.proofs.lemmas.Option.{get_or_from_slice_get, slice_get_within}
 use Rattle.std.proofs.lemmas.Str.{IsUtf8-from_is_utf8}
 use Rattle.core_terms.specs.Formats.{depth_limit}
 use Rattle.core_terms.specs.Terms.{Program}
-use Rattle.core_terms.specs.Types.{Ty, NamedTy, AuthTy, VecTy, fields_at, item_types, OnFields}
-use Rattle.core_terms.specs.Typing.{same_type}
+use Rattle.core_terms.specs.Types.{Ty, NamedTy, AuthTy, VecTy, fields_at, item_types, OnFields, same_type}
 use Rattle.core_terms.specs.Values.{Value, ConV, ItemsV, Values, AndV, IsIdeal, AreIdeal, IsWithin, AuthWithin, AuthWithinAll, size, depth, int_fits}
-use Rattle.core_terms.proofs.TypingSound.{same_sound}
+use Rattle.core_terms.proofs.SameTypes.{same_sound}
 use Rattle.images.specs.ImageLaws.{RootsFit}
 use Rattle.images.specs.Images.{Entry, entry, Loading, Loaded, FaultyImage, BadRecord, TooBig, TooDeep, Cut, Image, Root, Refused, Magic, OtherProgram, RootType, Leftover, array_from, as_image, checked_entry, field_count, fields_from, image_of, last, load_records, pair_from, rooted, stands_for, with_record, within_limits}
 use Rattle.images.specs.Parts.{is_part}

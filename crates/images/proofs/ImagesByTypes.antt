@@ -1,16 +1,19 @@
 -- What an image gives depends on the types of a program alone, and not on its functions.
-use Rattle.std.proofs.Common.{◌≡◌, ℕ, zero, suc, List, [], ◌∷◌, ◌++◌, length, take, drop, Option, Some, None, refl, ap}
+use Rattle.std.proofs.Common.{◌≡◌, ℕ, zero, suc, List, [], ◌∷◌, ◌++◌, length, take, drop, Option, Some, None, Vec, refl, ap}
+use Rattle.std.specs.declared.alloc.Global.{Global}
 use Rattle.std.specs.Int.{w32, from_be_bytes}
-use Rattle.core_terms.specs.ProgramTypes.{program_with, types_meaning}
+use Rattle.core_terms.specs.ProgramTypes.{types_meaning}
+use Rattle.core_terms.specs.ProgramParts.{program_of_parts}
 use Rattle.core_terms.specs.Terms.{Program}
+use Rattle.core_terms.specs.declared.instruction.Instruction.{Instruction}
 use Rattle.core_terms.specs.declared.program_types.Types.{Types}
 use Rattle.core_terms.specs.declared.term.Function.{Function}
 use Rattle.images.specs.Images.{Entry, Loading, as_image, checked_entry, field_count, headed, image_of, load_records, stands_for, with_record, within_limits}
 use Rattle.images.specs.Records.{RecordRead, ReadRecord, CutRecord, NoRecord, read_record}
 
-module _ (types : Types) (functions : List Function) where
+module _ (types : Types) (functions : List Function) (code : Option (Vec (Vec Instruction Global) Global)) where
   abbrev P : Program
-  P = program_with types functions
+  P = program_of_parts types functions code
 
   abbrev Q : Program
   Q = types_meaning types

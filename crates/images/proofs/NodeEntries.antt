@@ -5,7 +5,7 @@ use Rattle.std.specs.Int.{w32, to_be_bytes}
 use Rattle.std.specs.Option.{option_map_or}
 use Rattle.core_terms.specs.Types.{Ty, UnitTy, BoolTy, IntTy, TextTy, PairTy, NamedTy, AuthTy, VecTy, Table, fields_at, is_length, item_types, OnFields}
 use Rattle.core_terms.specs.Values.{Value, UnitV, BoolV, IntV, TextV, PairV, ConV, ItemsV, Values, NoV, AndV}
-use Rattle.core_terms.proofs.TypingSound.{second_of}
+use Rattle.core_terms.proofs.SameTypes.{second_of}
 use Rattle.images.specs.Images.{Entry, entry}
 use Rattle.images.specs.Parts.{HasLength}
 use Rattle.images.specs.SavedImages.{number_among}

@@ -1,11 +1,10 @@
 -- The levels on which parts of a type are found: how many named types are opened.
 use Rattle.std.proofs.Common.{◌≡◌, ◌⊎◌, inl, inr, ℕ, zero, suc, Bool, true, List, [], ◌∷◌, unwrap_or, Some, slice_get, refl, sym, subst}
 use Rattle.std.proofs.lemmas.Bool.{or_cases, or_left, or_right}
-use Rattle.core_terms.specs.Types.{Ty, UnitTy, BoolTy, IntTy, TextTy, PairTy, NamedTy, AuthTy, VecTy, Table}
+use Rattle.core_terms.specs.Types.{Ty, UnitTy, BoolTy, IntTy, TextTy, PairTy, NamedTy, AuthTy, VecTy, Table, same_type}
 use Rattle.core_terms.specs.Roles.{some_passes}
-use Rattle.core_terms.specs.Typing.{same_type}
 use Rattle.core_terms.proofs.TypingComplete.{same_self}
-use Rattle.core_terms.proofs.TypingSound.{same_sound}
+use Rattle.core_terms.proofs.SameTypes.{same_sound}
 use Rattle.images.specs.Parts.{is_part_within}
 
 -- one of these passes, by its place

@@ -7,7 +7,7 @@ use Rattle.core_terms.specs.TypeTables.{stands_behind, type_of_form}
 use Rattle.core_terms.specs.declared.types.TyForm.{TyForm}
 use Rattle.core_terms.specs.declared.types.TyForm.TheVariants.{UnitForm, BoolForm, IntForm, TextForm, AuthForm, PairForm, NamedForm, VecForm}
 use Rattle.core_terms.specs.declared.program_types.Types.{Types}
-use Rattle.core_terms.proofs.TypingSound.{first_of, second_of, same_sound}
+use Rattle.core_terms.proofs.SameTypes.{first_of, second_of, same_sound}
 use Rattle.images.specs.PartMarks.{AddsMarks, IsMarked, IsPartOfForm, IsSpread, type_of}
 use Rattle.images.proofs.PartLevels.{IsPart, itself, in_auth, in_first, in_second, in_vec, auth_cases, pair_cases, part_of_part, vec_cases}
 

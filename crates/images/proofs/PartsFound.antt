@@ -2,7 +2,7 @@
 use Rattle.std.proofs.Common.{◌≡◌, inl, inr, ℕ, zero, suc, true, List, [], length, Option, Some, None, slice_get, unwrap_or, sym, subst}
 use Rattle.std.specs.Option.{option_and_then}
 use Rattle.core_terms.specs.Types.{Ty, UnitTy, BoolTy, IntTy, TextTy, PairTy, NamedTy, AuthTy, VecTy, Table}
-use Rattle.core_terms.proofs.TypingSound.{same_sound}
+use Rattle.core_terms.proofs.SameTypes.{same_sound}
 use Rattle.images.specs.Parts.{is_part}
 use Rattle.images.specs.ImageLaws.{IsPartOf, Itself, Authenticated, First, Second, Element, Field, PartsAreFound}
 use Rattle.images.proofs.ClosedParts.{field_part, first_part, inner_part, item_part, second_part}

@@ -3,9 +3,8 @@ use Rattle.std.proofs.Common.{◌≡◌, ℕ, zero, suc, true, ◌*◌, ◌<◌,
 use Rattle.std.specs.Int.{w16, to_be_bytes, from_be_bytes}
 use Rattle.std.specs.Option.{option_and_then, option_map}
 use Rattle.std.proofs.lemmas.Nat.{from_be_bytes-to_be_bytes_2}
-use Rattle.core_terms.specs.Types.{Ty, UnitTy, BoolTy, IntTy, TextTy, PairTy, NamedTy, AuthTy, VecTy, Table, fields_at, is_length, item_types, OnFields}
+use Rattle.core_terms.specs.Types.{Ty, UnitTy, BoolTy, IntTy, TextTy, PairTy, NamedTy, AuthTy, VecTy, Table, fields_at, is_length, item_types, OnFields, same_type}
 use Rattle.core_terms.specs.Values.{Value, UnitV, BoolV, IntV, TextV, PairV, ConV, ItemsV, Values, NoV, AndV, IsIdeal, AreIdeal}
-use Rattle.core_terms.specs.Typing.{same_type}
 use Rattle.core_terms.proofs.TypingComplete.{same_self}
 use Rattle.images.specs.Images.{Entry, entry, array_from, fields_from, pair_from, stands_for}
 use Rattle.images.specs.Records.{Record, UnitRecord, BoolRecord, IntRecord, TextRecord, PairRecord, ConRecord, AuthRecord, VecRecord, ReadRecord, con_record, fields_record, numbers_of, vec_record}

@@ -6,7 +6,7 @@ use Rattle.std.specs.Int.{w16, from_be_bytes}
 use Rattle.core_terms.specs.ProgramTrees.{are_below, has_fields_below}
 use Rattle.core_terms.specs.declared.term.Constructor.{Constructor}
 use Rattle.core_terms.specs.declared.term.NamedType.{NamedType}
-use Rattle.core_terms.proofs.TypingSound.{first_of, second_of}
+use Rattle.core_terms.proofs.SameTypes.{first_of, second_of}
 use Rattle.images.specs.Records.{NoRecord, con_record}
 use Rattle.images.proofs.PartMarking.{fields_below_at}
 

@@ -1,11 +1,11 @@
 -- The root of an image: the last record, of the state's type, with nothing behind it.
 use Rattle.std.proofs.Common.{◌≡◌, ◌==◌, ℕ, ◌-◌, Bool, true, false, List, [], ◌∷◌, length, None, Some, slice_get, nat_eq, refl, sym, ap, ◌∙◌, subst, if◌then◌else◌, arith, eqb-true}
 use Rattle.core_terms.specs.ProgramTypes.{types_by_number, types_meaning}
-use Rattle.core_terms.specs.Typing.{same_type}
+use Rattle.core_terms.specs.Types.{same_type}
 use Rattle.core_terms.specs.Values.{Value}
 use Rattle.core_terms.specs.declared.program_types.Types.{Types}
 use Rattle.core_terms.specs.declared.types.TyId.{TyId}
-use Rattle.core_terms.proofs.TypingSound.{same_sound}
+use Rattle.core_terms.proofs.SameTypes.{same_sound}
 use Rattle.images.specs.Images.{Entry, Image, Leftover, Refused, Root, RootType, last, rooted}
 use Rattle.value_store.specs.Markings.{Marking, kind_of, seen_as}
 use Rattle.value_store.specs.Nodes.{Node}

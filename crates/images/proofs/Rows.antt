@@ -13,7 +13,7 @@ use Rattle.images.specs.SavedImages.{saved_image}
 
 -- programs with a state of this type: without named types, and with these
 abbrev with_types : Table → Ty → Program
-with_types types t = record { format = first_format 1024; types = types; state = t; functions = [] }
+with_types types t = record { format = first_format 1024; types = types; state = t; functions = []; code = None }
 
 abbrev with_state : Ty → Program
 with_state = with_types []
@@ -161,7 +161,7 @@ field_of_other_type = refl
 
 -- the limits: of 15 bytes, which a pair of ints passes; and a value of depth 513
 abbrev small : Program
-small = record { format = record { digest = λ hash t bytes. hash bytes; print = λ hash t. None; limit = 15; magic = []; image_magic = image_magic; most_kept = 0; arrays = false }; types = []; state = PairTy IntTy IntTy; functions = [] }
+small = record { format = record { digest = λ hash t bytes. hash bytes; print = λ hash t. None; limit = 15; magic = []; image_magic = image_magic; most_kept = 0; arrays = false }; types = []; state = PairTy IntTy IntTy; functions = []; code = None }
 
 too_big : image_of small digest (image 2 (2 ∷ replicate 8 0 ++ 4 ∷ ref 0 ++ ref 0)) ≡ Refused (TooBig 1)
 too_big = refl

@@ -3,8 +3,8 @@ use Rattle.std.proofs.Common.{◌≡◌, Bool, true, false, pos, negsuc, ℤ, re
 use Rattle.std.proofs.lemmas.Bool.{eqb-true}
 use Rattle.std.proofs.lemmas.Slice.Eq.{bytes_eq-Decides}
 use Rattle.core_terms.specs.Values.{Value, UnitV, BoolV, IntV, TextV, PairV, ConV, DigestV, ItemsV, Values, NoV, AndV}
-use Rattle.core_terms.specs.Typing.{same_type}
-use Rattle.core_terms.proofs.TypingSound.{first_of, second_of, same_sound}
+use Rattle.core_terms.specs.Types.{same_type}
+use Rattle.core_terms.proofs.SameTypes.{first_of, second_of, same_sound}
 use Rattle.core_terms.proofs.TypingComplete.{both, same_self}
 use Rattle.images.specs.Images.{Entry, entry}
 use Rattle.images.specs.SavedImages.{same_bool, same_int, same_value, same_values, same_entry}

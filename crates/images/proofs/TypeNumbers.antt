@@ -2,8 +2,7 @@
 use Rattle.std.proofs.Common.{◌≡◌, ◌<◌, ℕ, Bool, true, false, length, nat_eq, Some, slice_get, refl, sym, ap, ◌∙◌, eqb-true}
 use Rattle.std.proofs.lemmas.Option.{slice_get-get_or, slice_get_within, get_or_from_slice_get, same_Some}
 use Rattle.std.proofs.lemmas.Bool.{eq-eqb}
-use Rattle.core_terms.specs.Types.{Ty, UnitTy}
-use Rattle.core_terms.specs.Typing.{same_type}
+use Rattle.core_terms.specs.Types.{Ty, UnitTy, same_type}
 use Rattle.core_terms.specs.ProgramTypes.{types_by_number, types_meaning}
 use Rattle.core_terms.specs.TypeTables.{type_at, type_of_form}
 use Rattle.images.specs.PartMarks.{IsPartOfState}
@@ -11,7 +10,7 @@ use Rattle.core_terms.specs.declared.types.TyId.{TyId}
 use Rattle.core_terms.specs.declared.program_types.Types.{Types}
 use Rattle.core_terms.specs.declared.types.TyForm.{TyForm}
 use Rattle.core_terms.proofs.TypingComplete.{same_complete}
-use Rattle.core_terms.proofs.TypingSound.{same_sound}
+use Rattle.core_terms.proofs.SameTypes.{same_sound}
 
 differ : false ≡ true → ⊥
 differ e = cc

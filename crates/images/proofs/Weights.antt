@@ -3,7 +3,7 @@ use Rattle.std.proofs.Common.{◌≡◌, ℕ, zero, suc, ◌+◌, ◌<◌, ◌�
 use Rattle.std.specs.List.{list_all}
 use Rattle.value_store.specs.Nodes.{Node}
 use Rattle.value_store.specs.declared.node.Ref.{Ref}
-use Rattle.core_terms.proofs.TypingSound.{first_of, second_of}
+use Rattle.core_terms.proofs.SameTypes.{first_of, second_of}
 use Rattle.images.specs.Frames.{frame_of}
 use Rattle.images.specs.declared.save.Frame.{Frame}
 use Rattle.images.proofs.NodeEntries.{refs_at}

@@ -1,5 +1,5 @@
 -- The image of an array, and images that are refused at one. Each equation holds by computing both sides.
-use Rattle.std.specs.Prelude.{◌≡◌, ℕ, Bool, true, false, List, [], ◌∷◌, ◌++◌, length, replicate, pos, refl}
+use Rattle.std.specs.Prelude.{◌≡◌, ℕ, Bool, true, false, List, [], ◌∷◌, ◌++◌, length, replicate, pos, refl, None}
 use Rattle.core_terms.specs.Types.{Ty, UnitTy, BoolTy, IntTy, VecTy}
 use Rattle.core_terms.specs.Values.{Value, IntV, BoolV, UnitV, ItemsV, NoV, AndV}
 use Rattle.core_terms.specs.Terms.{Program}
@@ -13,7 +13,7 @@ abbrev pub with_arrays : Format
 with_arrays = second_format [] 1024
 
 abbrev pub two_ints : Format → Program
-two_ints format = record { format = format; types = []; state = VecTy 2 IntTy; functions = [] }
+two_ints format = record { format = format; types = []; state = VecTy 2 IntTy; functions = []; code = None }
 
 abbrev pub digest : List ℕ
 digest = replicate 32 5

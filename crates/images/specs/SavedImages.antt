@@ -1,10 +1,9 @@
 -- The one image that is written for a value.
 use Rattle.std.specs.Prelude.{ℕ, suc, Bool, true, false, ◌&&◌, ◌||◌, List, [], ◌∷◌, ◌++◌, length, unwrap_or, nat_eq, bytes_eq, ℤ, pos, negsuc, if◌then◌else◌}
 use Rattle.std.specs.Int.{w16, w32, w64, to_be_bytes, cast_unsigned}
-use Rattle.core_terms.specs.Types.{Ty, UnitTy, BoolTy, IntTy, TextTy, PairTy, NamedTy, AuthTy, VecTy, Table, fields_at, item_types}
+use Rattle.core_terms.specs.Types.{Ty, UnitTy, BoolTy, IntTy, TextTy, PairTy, NamedTy, AuthTy, VecTy, Table, fields_at, item_types, same_type}
 use Rattle.core_terms.specs.Values.{Value, UnitV, BoolV, IntV, TextV, PairV, ConV, DigestV, ItemsV, Values, NoV, AndV}
 use Rattle.core_terms.specs.Terms.{Program}
-use Rattle.core_terms.specs.Typing.{same_type}
 use Rattle.images.specs.Images.{Entry, entry}
 
 -- two bools, and two numbers, are the same

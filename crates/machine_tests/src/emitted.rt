@@ -1,7 +1,7 @@
 // The instructions that are generated for functions.
 use crate::stage::code_of;
-use code_gen::{Code, Instruction};
-use core_terms::{Arith, Compare, FunctionId, TextCompare};
+use code_gen::Code;
+use core_terms::{Arith, Compare, FunctionId, Instruction, TextCompare};
 use std::alloc::{AllocError, Global};
 use std::test::Fail;
 

@@ -2,11 +2,11 @@
 use Rattle.std.proofs.Common.{◌≡◌, length, ℕ, ◌++◌, List, [], ◌∷◌, Result, Option, true, refl, ap, ◌<◌, reverse, arith}
 use Rattle.std.proofs.lemmas.List.{length-reverse}
 use Rattle.core_terms.specs.Types.{Ty, IntTy, VecTy, is_length}
-use Rattle.core_terms.specs.Values.{Value, IntV, ItemsV}
+use Rattle.core_terms.specs.Values.{Value, ItemsV}
 use Rattle.core_terms.specs.Terms.{Program}
 use Rattle.core_terms.specs.declared.outcome.Trap.{Trap}
 use Rattle.ideal_meaning.specs.Run.{Run, fill_of, get_of, put_of, int_in, items_in}
-use Rattle.code_gen.specs.Instructions.{VecFill, VecGet, VecPut}
+use Rattle.core_terms.specs.Instructions.{VecFill, VecGet, VecPut}
 use Rattle.code_gen.specs.Code.{generated}
 use Rattle.value_store.specs.Nodes.{Node}
 use Rattle.value_store.specs.Standing.{Keeps}

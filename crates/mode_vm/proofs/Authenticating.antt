@@ -3,10 +3,11 @@ use Rattle.std.proofs.Common.{◌≡◌, ℕ, ◌+◌, true, List, [], ◌∷◌
 use Rattle.core_terms.specs.Types.{Ty, AuthTy}
 use Rattle.core_terms.specs.Values.{Value, Values, NoV, AndV}
 use Rattle.core_terms.specs.Terms.{Program}
-use Rattle.code_gen.specs.Instructions.{Auth}
-use Rattle.code_gen.specs.Code.{Body, generated}
-use Rattle.code_meaning.specs.Execution.{tie, act}
-use Rattle.code_meaning.specs.Accept.{Fits}
+use Rattle.core_terms.specs.Instructions.{Auth}
+use Rattle.core_terms.specs.Bodies.{Body}
+use Rattle.code_gen.specs.Code.{generated}
+use Rattle.ideal_meaning.specs.Execution.{tie, act}
+use Rattle.core_terms.specs.Accepted.{Fits}
 use Rattle.value_store.specs.Nodes.{Node}
 use Rattle.value_store.specs.Standing.{Kind, Keeps}
 use Rattle.value_store.specs.Markings.{Marking, kind_of}

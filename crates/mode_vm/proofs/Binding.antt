@@ -4,11 +4,12 @@ use Rattle.core_terms.specs.Types.{Ty, Table}
 use Rattle.core_terms.specs.Values.{Values, NoV, AndV}
 use Rattle.core_terms.specs.Terms.{Program}
 use Rattle.ideal_meaning.specs.Run.{join}
-use Rattle.code_gen.specs.Instructions.{Bind, Unbind}
-use Rattle.code_gen.specs.Code.{Body, generated}
-use Rattle.code_meaning.specs.Execution.{tie, act, where_some, without_last}
-use Rattle.code_meaning.specs.Accept.{Fits}
-use Rattle.code_meaning.proofs.Parts.{last_dropped}
+use Rattle.core_terms.specs.Instructions.{Bind, Unbind}
+use Rattle.core_terms.specs.Bodies.{Body}
+use Rattle.code_gen.specs.Code.{generated}
+use Rattle.ideal_meaning.specs.Execution.{tie, act, where_some, without_last}
+use Rattle.core_terms.specs.Accepted.{Fits}
+use Rattle.ideal_meaning.proofs.Parts.{last_dropped}
 use Rattle.value_store.specs.Nodes.{Node}
 use Rattle.value_store.specs.Standing.{Kind}
 use Rattle.value_store.specs.Markings.{Marking, kind_of}

@@ -5,10 +5,11 @@ use Rattle.core_terms.specs.Values.{Value, BoolV}
 use Rattle.core_terms.specs.Terms.{Program}
 use Rattle.core_terms.specs.declared.outcome.Trap.{Trap}
 use Rattle.ideal_meaning.specs.Run.{Run, Gives, bool_in}
-use Rattle.code_gen.specs.Instructions.{Branch, Not}
-use Rattle.code_gen.specs.Code.{Body, code_at, generated}
-use Rattle.code_meaning.specs.Execution.{held, tie, act}
-use Rattle.code_meaning.specs.Accept.{Fits}
+use Rattle.core_terms.specs.Instructions.{Branch, Not}
+use Rattle.core_terms.specs.Bodies.{Body, code_at}
+use Rattle.code_gen.specs.Code.{generated}
+use Rattle.ideal_meaning.specs.Execution.{held, tie, act}
+use Rattle.core_terms.specs.Accepted.{Fits}
 use Rattle.value_store.specs.Nodes.{Node}
 use Rattle.value_store.specs.Standing.{Keeps}
 use Rattle.value_store.specs.Markings.{Marking, kind_of}

@@ -1,18 +1,19 @@
 -- A call begins, and gives back.
 use Rattle.std.proofs.Common.{◌≡◌, ℕ, zero, suc, pred, ◌+◌, ◌<◌, ◌≤◌, true, false, List, [], ◌∷◌, ◌++◌, length, drop, reverse, Some, slice_get, refl, sym, ap, ap₂, ◌∙◌, subst, arith, append_assoc}
-use Rattle.std.proofs.lemmas.List.{reverse-append, length-map, length-reverse}
+use Rattle.std.proofs.lemmas.List.{reverse-append, length-reverse}
 use Rattle.core_terms.specs.Types.{Ty, Table}
 use Rattle.core_terms.specs.Values.{Values, NoV, AndV}
 use Rattle.core_terms.specs.Terms.{Program, IsTyped}
 use Rattle.ideal_meaning.specs.Run.{join}
-use Rattle.code_gen.specs.Instructions.{Call}
-use Rattle.code_gen.specs.Code.{Body, code_at, generated, function_code}
-use Rattle.code_meaning.specs.Execution.{Coded, held, tie, Held, popped, then_coded, exec, call_code}
-use Rattle.code_meaning.specs.Accept.{Shape, shape, push_types, IsFine}
+use Rattle.core_terms.specs.Instructions.{Call}
+use Rattle.core_terms.specs.Bodies.{Body, code_at}
+use Rattle.code_gen.specs.Code.{generated}
+use Rattle.ideal_meaning.specs.Execution.{Coded, held, tie, Held, popped, then_coded, exec, call_code}
+use Rattle.core_terms.specs.Accepted.{Shape, shape, push_types, IsFine}
 use Rattle.code_meaning.specs.Steps as steps
-use Rattle.code_meaning.proofs.Parts.{push_all}
+use Rattle.ideal_meaning.proofs.Parts.{push_all}
 use Rattle.code_meaning.proofs.Loop.{then_twice}
-use Rattle.code_meaning.proofs.Generated.{generated_accepted}
+use Rattle.code_meaning.proofs.CodeRight.{functions_found, generated_accepted}
 use Rattle.value_store.specs.Nodes.{Node}
 use Rattle.value_store.specs.Standing.{Kind}
 use Rattle.value_store.specs.Markings.{Marking, kind_of}
@@ -92,7 +93,7 @@ module _ (m : Marking) (P : Program) (typed : IsTyped P) (z : Ty) (nodes : List 
   found = fits_first B cs.top.result (Call f) next.rest cs.top.shapes cs.top.local_types cs.top.operand_types fine_here shows.top.starts
 
   pub callee_there : f < length P.functions
-  callee_there = let l = length-map P.functions (function_code P.types) in omega (arith, found.3, l)
+  callee_there = let l = functions_found P typed in omega (arith, found.3, l)
 
   pub enough : length (code_at B f).parameters ≤ length old.top.operands.items
   enough =
@@ -192,40 +193,39 @@ module _ (m : Marking) (P : Program) (typed : IsTyped P) (z : Ty) (nodes : List 
         ∙ ap (λ p. drop p (code_at B old.top.function.0).code) (sym begins.waits.place) ∙ ap (λ f. drop begins.caller.place (code_at B f.0).code) (sym begins.waits.function)
 
     pub call_leads : GoesTo m P z nodes true old.fuel cs new
-    call_leads =
-        let length_functions = length-map P.functions (function_code P.types) in (
-          record { top = runs; waits = waits ∷ cs.waits },
+    call_leads = (
+      record { top = runs; waits = waits ∷ cs.waits },
+      record {
+        top = record {
+          is = record {
+            there = omega (arith, found.3, begins.function);
+            result = ap (λ f. (code_at B f).result) (sym begins.function);
+            left = ap (λ p. drop p (code_at B f).code) (sym begins.place) ∙ ap (λ f. drop new.top.place (code_at B f).code) (sym begins.function);
+            fine = (accepted args kept long begins.operands).1;
+            locals = subst (λ l. AllHeld (kind_of m P) P.types nodes l (code_at B f).parameters here.vs) (sym begins.locals) here.args_stand;
+            operands = subst (λ l. AllHeld (kind_of m P) P.types nodes (reverse l) [] NoV) (sym begins.no_operands) tt;
+          };
+          starts = (accepted args kept long begins.operands).2;
+        };
+        waits = subst (λ l. AreWaiting m P nodes z (code_at B f).result l (waits ∷ cs.waits)) (sym (ap reverse begins.waiting ∙ reverse-append old.waiting.items (begins.caller ∷ []))) (
           record {
-            top = record {
-              is = record {
-                there = omega (arith, found.3, begins.function, length_functions);
-                result = ap (λ f. (code_at B f).result) (sym begins.function);
-                left = ap (λ p. drop p (code_at B f).code) (sym begins.place) ∙ ap (λ f. drop new.top.place (code_at B f).code) (sym begins.function);
-                fine = (accepted args kept long begins.operands).1;
-                locals = subst (λ l. AllHeld (kind_of m P) P.types nodes l (code_at B f).parameters here.vs) (sym begins.locals) here.args_stand;
-                operands = subst (λ l. AllHeld (kind_of m P) P.types nodes (reverse l) [] NoV) (sym begins.no_operands) tt;
-              };
-              starts = (accepted args kept long begins.operands).2;
+            is = record {
+              there = subst (λ f. f.0 < length (generated P).functions) (sym begins.waits.function) shows.top.is.there;
+              result = shows.top.is.result ∙ ap (λ f. (code_at B f.0).result) (sym begins.waits.function);
+              left = behind;
+              fine = fine_rest B cs.top.result (Call f) next.rest cs.top.shapes fine_here;
+              locals = subst (λ l. AllHeld (kind_of m P) P.types nodes l cs.top.local_types cs.top.locals) (sym begins.waits.locals) shows.top.is.locals;
+              operands = subst (λ l. AllHeld (kind_of m P) P.types nodes (reverse l) found.0 here.below) (sym begins.waits.operands) here.rest_stand;
             };
-            waits = subst (λ l. AreWaiting m P nodes z (code_at B f).result l (waits ∷ cs.waits)) (sym (ap reverse begins.waiting ∙ reverse-append old.waiting.items (begins.caller ∷ []))) (
-              record {
-                is = record {
-                  there = subst (λ f. f.0 < length P.functions) (sym begins.waits.function) shows.top.is.there;
-                  result = shows.top.is.result ∙ ap (λ f. (code_at B f.0).result) (sym begins.waits.function);
-                  left = behind;
-                  fine = fine_rest B cs.top.result (Call f) next.rest cs.top.shapes fine_here;
-                  locals = subst (λ l. AllHeld (kind_of m P) P.types nodes l cs.top.local_types cs.top.locals) (sym begins.waits.locals) shows.top.is.locals;
-                  operands = subst (λ l. AllHeld (kind_of m P) P.types nodes (reverse l) found.0 here.below) (sym begins.waits.operands) here.rest_stand;
-                };
-                starts = found.2;
-              },
-              shows.waits,
-            );
-            deep = subst (λ b. IsDeep b new.fuel runs) (sym begins.entered) (subst (λ k. k ≤ suc (pred cs.top.depth)) (sym begins.fuel) (deep_called args kept long begins.operands));
-            deep_below = subst (λ k. AreDeep k (waits ∷ cs.waits)) (sym begins.fuel) (deep_here args kept long begins.operands, shows.deep_below);
+            starts = found.2;
           },
-          λ w. same_end args kept long begins.operands w ∙ ap₂ (λ b k. end_of m P b (record { top = runs; waits = waits ∷ cs.waits }) k w) (sym begins.entered) (sym begins.fuel),
-          subst (λ b. stack_steps P b new.fuel (record { top = runs; waits = waits ∷ cs.waits }) < stack_steps P true old.fuel cs) (sym begins.entered)
-              (subst (λ k. stack_steps P false k (record { top = runs; waits = waits ∷ cs.waits }) < stack_steps P true old.fuel cs) (sym begins.fuel) (let l = ap length next.is in
-              omega (arith, l))),
-        )
+          shows.waits,
+        );
+        deep = subst (λ b. IsDeep b new.fuel runs) (sym begins.entered) (subst (λ k. k ≤ suc (pred cs.top.depth)) (sym begins.fuel) (deep_called args kept long begins.operands));
+        deep_below = subst (λ k. AreDeep k (waits ∷ cs.waits)) (sym begins.fuel) (deep_here args kept long begins.operands, shows.deep_below);
+      },
+      λ w. same_end args kept long begins.operands w ∙ ap₂ (λ b k. end_of m P b (record { top = runs; waits = waits ∷ cs.waits }) k w) (sym begins.entered) (sym begins.fuel),
+      subst (λ b. stack_steps P b new.fuel (record { top = runs; waits = waits ∷ cs.waits }) < stack_steps P true old.fuel cs) (sym begins.entered)
+          (subst (λ k. stack_steps P false k (record { top = runs; waits = waits ∷ cs.waits }) < stack_steps P true old.fuel cs) (sym begins.fuel) (let l = ap length next.is in
+          omega (arith, l))),
+    )

@@ -9,11 +9,12 @@ use Rattle.core_terms.specs.Terms.{Program}
 use Rattle.core_terms.specs.declared.program_types.Types.{Types}
 use Rattle.core_terms.specs.declared.outcome.Trap.{Trap}
 use Rattle.ideal_meaning.specs.Run.{limited}
-use Rattle.code_gen.specs.Instructions.{Make}
-use Rattle.code_gen.specs.Code.{generated, field_count}
-use Rattle.code_meaning.specs.Execution.{Coded as Ends, Held, Next, held, tie, act, popped, then_code}
-use Rattle.code_meaning.specs.Accept.{push_types}
-use Rattle.code_meaning.proofs.Parts.{push_all}
+use Rattle.core_terms.specs.Instructions.{Make}
+use Rattle.code_gen.specs.Code.{generated}
+use Rattle.core_terms.specs.Bodies.{field_count}
+use Rattle.ideal_meaning.specs.Execution.{Coded as Ends, Held, Next, held, tie, act, popped, then_code}
+use Rattle.core_terms.specs.Accepted.{push_types}
+use Rattle.ideal_meaning.proofs.Parts.{push_all}
 use Rattle.value_store.specs.Nodes.{Node}
 use Rattle.value_store.specs.Standing.{Kind, AllStandFor, Keeps}
 use Rattle.value_store.specs.declared.node.Ref.{Ref}

@@ -1,7 +1,7 @@
 -- The elements of an array among nodes: as many times one, one of them, and one replaced; and the place of an element at an int.
-use Rattle.std.proofs.Common.{◌≡◌, ℕ, zero, suc, ◌<◌, ◌&&◌, Bool, true, false, List, [], ◌∷◌, length, map, replicate, slice_get, slice_set, slice_index_or, Option, Some, None, IfOk, Result, Ok, Err, nat_lt, ℤ, pos, negsuc, refl, sym, ap, ap₂, ◌∙◌, subst, arith, lt-ltb, le-ltb, if◌then◌else◌}
+use Rattle.std.proofs.Common.{◌≡◌, ℕ, zero, suc, ◌<◌, ◌&&◌, Bool, true, false, List, [], ◌∷◌, length, replicate, slice_get, slice_set, slice_index_or, Some, None, IfOk, Result, Ok, Err, nat_lt, ℤ, pos, negsuc, refl, sym, ap, ap₂, ◌∙◌, subst, arith, lt-ltb, le-ltb}
 use Rattle.std.specs.List.{list_all}
-use Rattle.core_terms.specs.Types.{Ty, IntTy, VecTy, Table, is_length, item_types}
+use Rattle.core_terms.specs.Types.{Ty, VecTy, Table, is_length, item_types}
 use Rattle.core_terms.specs.Values.{Value, IntV, ItemsV, Values, NoV, AndV}
 use Rattle.core_terms.specs.declared.outcome.Trap.{Trap}
 use Rattle.ideal_meaning.specs.Run.{Run, Gives, Ends, Traps, Index, at_index, fill_of, get_of, int_in, items_in, limited, local, put_of, repeated, replaced}

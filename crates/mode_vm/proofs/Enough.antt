@@ -6,7 +6,7 @@ use Rattle.core_terms.specs.Terms.{Program}
 use Rattle.core_terms.specs.declared.term.Arith.{Arith}
 use Rattle.core_terms.specs.declared.term.Compare.{Compare}
 use Rattle.core_terms.specs.declared.term.TextCompare.{TextCompare}
-use Rattle.code_gen.specs.Instructions.{Instruction, ArithOp, CompareOp, TextCompareOp, Cat, Pair, VecGet}
+use Rattle.core_terms.specs.Instructions.{Instruction, ArithOp, CompareOp, TextCompareOp, Cat, Pair, VecGet}
 use Rattle.code_gen.specs.Code.{generated}
 use Rattle.value_store.specs.Nodes.{Node}
 use Rattle.value_store.specs.Markings.{Marking, kind_of}

@@ -1,8 +1,8 @@
 -- A frame is entered.
 use Rattle.std.proofs.Common.{◌≡◌, ℕ, suc, zero, ◌+◌, ◌*◌, ◌<◌, ◌≤◌, true, false, List, [], ◌∷◌, length, drop, reverse, slice_get, unwrap_or, refl, sym, ap, ap₂, ◌∙◌, subst, arith}
-use Rattle.std.proofs.lemmas.List.{length-map}
 use Rattle.std.proofs.Math.Nat.{suc-mul}
-use Rattle.code_gen.specs.Code.{FunctionCode, code_at, function_code, generated, no_function_code}
+use Rattle.core_terms.specs.Bodies.{FunctionCode, code_at, no_function_code}
+use Rattle.code_gen.specs.Code.{generated}
 use Rattle.mode_vm.specs.declared.frame.Frame.{Frame}
 use Rattle.core_terms.specs.Types.{Ty}
 use Rattle.core_terms.specs.Terms.{Program}
@@ -45,9 +45,7 @@ drop_shorter (x ∷ xs) (suc n) = let h = drop_shorter xs n in omega (arith, h)
 module _ (m : Marking) (P : Program) (z : Ty) (nodes : List Node) (state : State) (cs : ValueStack) (shows : Represents m P z nodes state cs) where
   top_fits : length cs.top.left ≤ code_size (generated P).functions
   top_fits =
-      let l = length-map P.functions (function_code P.types) in
-      let there : state.top.function.0 < length (generated P).functions = let h = shows.top.is.there in omega (arith, h, l) in
-      let fits = code_fits (generated P).functions state.top.function.0 there in
+      let fits = code_fits (generated P).functions state.top.function.0 shows.top.is.there in
       let short = drop_shorter (code_at (generated P) state.top.function.0).code state.top.place in
       let same = ap length shows.top.is.left in
       omega (arith, fits, short, same)

@@ -4,10 +4,11 @@ use Rattle.std.proofs.lemmas.List.{reverse-append}
 use Rattle.core_terms.specs.Types.{Ty, UnitTy, BoolTy, IntTy}
 use Rattle.core_terms.specs.Values.{Value, UnitV, BoolV, IntV, Values, NoV, AndV}
 use Rattle.core_terms.specs.Terms.{Program}
-use Rattle.code_gen.specs.Instructions.{Instruction}
-use Rattle.code_gen.specs.Code.{Body, code_at, generated}
-use Rattle.code_meaning.specs.Execution.{Coded, tie, act, exec, call_code, Next}
-use Rattle.code_meaning.specs.Accept.{Shape, shape, Fits, IsFine}
+use Rattle.core_terms.specs.Instructions.{Instruction}
+use Rattle.core_terms.specs.Bodies.{Body, code_at}
+use Rattle.code_gen.specs.Code.{generated}
+use Rattle.ideal_meaning.specs.Execution.{Coded, tie, act, exec, call_code, Next}
+use Rattle.core_terms.specs.Accepted.{Shape, shape, Fits, IsFine}
 use Rattle.code_meaning.proofs.Loop.{jump}
 use Rattle.value_store.specs.Nodes.{Node}
 use Rattle.value_store.specs.Standing.{Kind, Keeps}
@@ -102,7 +103,7 @@ module _ (m : Marking) (P : Program) where
       sym (drop_more code (frame.place + 1) skip) ∙ ap (drop skip) (sym (drop_more code frame.place 1) ∙ ap (drop 1) (sym b.top.is.left ∙ b.next.is)) in
       record {
         is = record {
-          there = subst (λ f. f.0 < length P.functions) (sym at.function) b.top.is.there;
+          there = subst (λ f. f.0 < length (generated P).functions) (sym at.function) b.top.is.there;
           result = b.top.is.result ∙ ap (λ f. (code_at B f.0).result) (sym at.function);
           left = sym behind ∙ ap (λ p. drop p code) (sym at.place) ∙ ap (λ f. drop after.place (code_at B f.0).code) (sym at.function);
           fine = fine_drop B c.result skip rest (drop 1 c.shapes) (fine_rest B c.result i rest c.shapes (subst (λ is. IsFine B c.result is c.shapes) b.next.is b.top.is.fine));

@@ -2,9 +2,10 @@
 use Rattle.std.proofs.Common.{◌≡◌, ℕ, zero, suc, ◌+◌, ◌<◌, List, [], ◌∷◌, length, drop, slice_get, Some, refl, ap, ◌∙◌, subst, arith}
 use Rattle.core_terms.specs.Types.{Ty}
 use Rattle.core_terms.specs.Terms.{Program}
-use Rattle.code_gen.specs.Instructions.{Instruction, Jump}
-use Rattle.code_gen.specs.Code.{Body, code_at, generated}
-use Rattle.code_meaning.specs.Accept.{Shape, IsFine}
+use Rattle.core_terms.specs.Instructions.{Instruction, Jump}
+use Rattle.core_terms.specs.Bodies.{Body, code_at}
+use Rattle.code_gen.specs.Code.{generated}
+use Rattle.core_terms.specs.Accepted.{Shape, IsFine}
 use Rattle.value_store.specs.Nodes.{Node}
 use Rattle.value_store.specs.Markings.{Marking}
 use Rattle.mode_vm.specs.Machines.{ValueFrame, Before}

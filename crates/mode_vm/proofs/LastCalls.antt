@@ -6,12 +6,13 @@ use Rattle.core_terms.specs.Types.{Ty}
 use Rattle.core_terms.specs.Values.{Value, Values, NoV}
 use Rattle.core_terms.specs.Terms.{Program, IsTyped}
 use Rattle.ideal_meaning.specs.Run.{Mode, Gives, Ends}
-use Rattle.code_gen.specs.Instructions.{Instruction, Unbind, Jump, Call, Return}
-use Rattle.code_gen.specs.Code.{Body, code_at, generated, function_code}
-use Rattle.code_gen.specs.CodeTrees.{instruction_of, instructions_of}
-use Rattle.code_gen.specs.declared.instruction.Instruction.{Instruction as Listed}
-use Rattle.code_meaning.specs.Execution.{Coded, Ran, Stuck, Held, held, tie, then_coded, exec, where_some, without_last}
-use Rattle.code_meaning.specs.Accept.{Shape, shape, Fits, IsFine}
+use Rattle.core_terms.specs.Instructions.{Instruction, Unbind, Jump, Call, Return}
+use Rattle.core_terms.specs.Bodies.{Body, code_at}
+use Rattle.code_gen.specs.Code.{generated}
+use Rattle.core_terms.specs.InstructionViews.{instruction_of, instructions_of}
+use Rattle.core_terms.specs.declared.instruction.Instruction.{Instruction as Listed}
+use Rattle.ideal_meaning.specs.Execution.{Coded, Ran, Stuck, Held, held, tie, then_coded, exec, where_some, without_last}
+use Rattle.core_terms.specs.Accepted.{Shape, shape, Fits, IsFine}
 use Rattle.code_meaning.specs.Steps as steps
 use Rattle.value_store.specs.Nodes.{Node}
 use Rattle.value_store.specs.Markings.{Marking, kind_of}
@@ -154,13 +155,12 @@ module _ (m : Marking) (P : Program) (typed : IsTyped P) (z : Ty) (nodes : List 
 
   pub last_leads : GoesTo m P z nodes true old.fuel cs new
   last_leads =
-      let length_functions = length-map P.functions (function_code P.types) in
       let there = finds.3 in (
         record { top = runs; waits = cs.waits },
         record {
           top = record {
             is = record {
-              there = omega (arith, there, begins.function, length_functions);
+              there = omega (arith, there, begins.function);
               result = ap (λ f. (code_at B f).result) (sym begins.function);
               left = ap (λ p. drop p (code_at B f).code) (sym begins.place) ∙ ap (λ f. drop new.top.place (code_at B f).code) (sym begins.function);
               fine = (accepted m P typed z nodes old new f cs shows next entered args kept long begins.operands).1;

@@ -3,11 +3,13 @@ use Rattle.std.proofs.Common.{◌≡◌, ℕ, zero, suc, ◌<◌, ◌≤◌, tru
 use Rattle.core_terms.specs.Types.{Ty}
 use Rattle.core_terms.specs.Terms.{Program}
 use Rattle.core_terms.specs.declared.outcome.Trap.{Trap}
-use Rattle.code_gen.specs.Instructions.{Instruction}
-use Rattle.code_gen.specs.Code.{Body, code_at, generated}
-use Rattle.code_meaning.specs.Execution.{then_coded}
-use Rattle.code_meaning.specs.Accept.{Shape, IsFine}
+use Rattle.core_terms.specs.Instructions.{Instruction}
+use Rattle.core_terms.specs.Bodies.{Body, code_at}
+use Rattle.code_gen.specs.Code.{generated}
+use Rattle.ideal_meaning.specs.Execution.{then_coded}
+use Rattle.core_terms.specs.Accepted.{Shape, IsFine}
 use Rattle.code_meaning.specs.Steps as steps
+use Rattle.code_meaning.proofs.CodeRight.{no_more_functions}
 use Rattle.value_store.specs.Nodes.{Node}
 use Rattle.value_store.specs.Standing.{Keeps}
 use Rattle.value_store.specs.Markings.{Marking, kind_of}
@@ -94,3 +96,7 @@ module _ (m : Marking) (P : Program) (z : Ty) (nodes : List Node) (state : State
     where
       some_same : (x y : Instruction) → Some x ≡ Some y → x ≡ y
       some_same x y e = cc
+
+-- the running function is one of the program
+pub top_there : (m : Marking) (P : Program) (z : Ty) (nodes : List Node) (state : State) (cs : ValueStack) → Represents m P z nodes state cs → state.top.function.0 < length P.functions
+top_there m P z nodes state cs shows = let there = shows.top.is.there in let few = no_more_functions P in omega (arith, there, few)

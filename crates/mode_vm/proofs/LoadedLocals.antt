@@ -5,9 +5,9 @@ use Rattle.core_terms.specs.Values.{Value, Values, NoV, AndV}
 use Rattle.core_terms.specs.Terms.{Program}
 use Rattle.core_terms.specs.declared.outcome.Trap.{Trap}
 use Rattle.ideal_meaning.specs.Run.{Gives}
-use Rattle.code_gen.specs.Instructions.{Load}
-use Rattle.code_meaning.specs.Execution.{held, tie, where_some}
-use Rattle.code_meaning.specs.Accept.{shape}
+use Rattle.core_terms.specs.Instructions.{Load}
+use Rattle.ideal_meaning.specs.Execution.{held, tie, where_some}
+use Rattle.core_terms.specs.Accepted.{shape}
 use Rattle.value_store.specs.Nodes.{Node}
 use Rattle.value_store.specs.Standing.{Kind}
 use Rattle.value_store.specs.Markings.{Marking, kind_of}

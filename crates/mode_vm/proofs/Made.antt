@@ -6,9 +6,10 @@ use Rattle.core_terms.specs.Terms.{Program}
 use Rattle.core_terms.specs.declared.outcome.Trap.{Trap}
 use Rattle.ideal_meaning.specs.Run.{Ends, Mode, Traps, Run}
 use Rattle.ideal_meaning.specs.Told.{trap_told}
-use Rattle.code_gen.specs.Instructions.{Instruction}
-use Rattle.code_gen.specs.Code.{Body, generated}
-use Rattle.code_meaning.specs.Execution.{Coded, Ran, Held, held, tie, act, exec, Next, then_code}
+use Rattle.core_terms.specs.Instructions.{Instruction}
+use Rattle.core_terms.specs.Bodies.{Body}
+use Rattle.code_gen.specs.Code.{generated}
+use Rattle.ideal_meaning.specs.Execution.{Coded, Ran, Held, held, tie, act, exec, Next, then_code}
 use Rattle.value_store.specs.Nodes.{Node}
 use Rattle.value_store.specs.Standing.{Keeps}
 use Rattle.value_store.specs.Markings.{Marking, kind_of}

@@ -4,10 +4,11 @@ use Rattle.core_terms.specs.Types.{Ty, AuthTy}
 use Rattle.core_terms.specs.Values.{Value, Values, NoV, AndV}
 use Rattle.core_terms.specs.Terms.{Program}
 use Rattle.ideal_meaning.specs.Run.{Run, Ends, Rejects, Opens, Refuses, with_fuel}
-use Rattle.code_gen.specs.Instructions.{Unauth}
-use Rattle.code_gen.specs.Code.{Body, generated}
-use Rattle.code_meaning.specs.Execution.{Coded, Ran, held, tie, then_code, then_coded, exec, act}
-use Rattle.code_meaning.specs.Accept.{Fits}
+use Rattle.core_terms.specs.Instructions.{Unauth}
+use Rattle.core_terms.specs.Bodies.{Body}
+use Rattle.code_gen.specs.Code.{generated}
+use Rattle.ideal_meaning.specs.Execution.{Coded, Ran, held, tie, then_code, then_coded, exec, act}
+use Rattle.core_terms.specs.Accepted.{Fits}
 use Rattle.code_meaning.specs.Steps as steps
 use Rattle.value_store.specs.Nodes.{Node}
 use Rattle.value_store.specs.Standing.{Kind, Keeps, StandsFor}

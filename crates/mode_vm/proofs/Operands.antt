@@ -8,9 +8,9 @@ use Rattle.core_terms.specs.declared.term.Arith.{Arith}
 use Rattle.core_terms.specs.declared.term.Compare.{Compare}
 use Rattle.core_terms.specs.declared.term.TextCompare.{TextCompare}
 use Rattle.ideal_meaning.specs.Run.{Gives, Ends, Traps, TooBig, TooDeep, limited}
-use Rattle.code_gen.specs.Instructions.{Pair, Fst, Snd, ArithOp, CompareOp, TextCompareOp, Cat, Len, Not, VecFill, VecGet, VecPut}
-use Rattle.code_gen.specs.Code.{Body}
-use Rattle.code_meaning.specs.Accept.{Fits}
+use Rattle.core_terms.specs.Instructions.{Pair, Fst, Snd, ArithOp, CompareOp, TextCompareOp, Cat, Len, Not, VecFill, VecGet, VecPut}
+use Rattle.core_terms.specs.Bodies.{Body}
+use Rattle.core_terms.specs.Accepted.{Fits}
 use Rattle.value_store.specs.Nodes.{Node}
 use Rattle.value_store.specs.Standing.{Kind}
 use Rattle.mode_vm.specs.Operands.{AllHeld, IsHeld}

@@ -3,9 +3,9 @@ use Rattle.std.proofs.Common.{◌≡◌, true, false, List, refl, subst}
 use Rattle.core_terms.specs.Types.{Ty}
 use Rattle.core_terms.specs.declared.program.FunctionId.{FunctionId}
 use Rattle.core_terms.specs.declared.types.TyId.{TyId}
-use Rattle.code_gen.specs.CodeTrees.{instruction_of}
-use Rattle.code_gen.specs.declared.instruction.Instruction.{Instruction}
-use Rattle.code_gen.specs.declared.instruction.Instruction.TheVariants.{Call, Return, Auth, Unauth}
+use Rattle.core_terms.specs.InstructionViews.{instruction_of}
+use Rattle.core_terms.specs.declared.instruction.Instruction.{Instruction}
+use Rattle.core_terms.specs.declared.instruction.Instruction.TheVariants.{Call, Return, Auth, Unauth}
 use Rattle.mode_vm.specs.Machines.{is_own, is_plain}
 use Rattle.mode_vm.specs.NodesPut.{works_in_hand}
 

@@ -5,10 +5,11 @@ use Rattle.core_terms.specs.Types.{Ty, Table}
 use Rattle.core_terms.specs.Values.{Value, Values, NoV, AndV}
 use Rattle.core_terms.specs.Terms.{Program}
 use Rattle.ideal_meaning.specs.Run.{Gives}
-use Rattle.code_gen.specs.Instructions.{Return}
-use Rattle.code_gen.specs.Code.{Body, code_at, generated}
-use Rattle.code_meaning.specs.Execution.{Ran, tie, then_coded, exec, act}
-use Rattle.code_meaning.specs.Accept.{IsFine, Fits}
+use Rattle.core_terms.specs.Instructions.{Return}
+use Rattle.core_terms.specs.Bodies.{Body, code_at}
+use Rattle.code_gen.specs.Code.{generated}
+use Rattle.ideal_meaning.specs.Execution.{Ran, tie, then_coded, exec, act}
+use Rattle.core_terms.specs.Accepted.{IsFine, Fits}
 use Rattle.code_meaning.specs.Steps as steps
 use Rattle.value_store.specs.Nodes.{Node}
 use Rattle.value_store.specs.Standing.{Kind}
@@ -90,7 +91,7 @@ module _ (m : Marking) (P : Program) (z : Ty) (nodes : List Node) (old : State) 
           record {
             top = record {
               is = record {
-                there = subst (λ f. f.0 < length P.functions) (sym at.function) h.0.is.there;
+                there = subst (λ f. f.0 < length (generated P).functions) (sym at.function) h.0.is.there;
                 result = h.0.is.result ∙ ap (λ f. (code_at B f.0).result) (sym at.function);
                 left = h.0.is.left ∙ ap (λ p. drop p (code_at B caller.function.0).code) (sym at.place) ∙ ap (λ f. drop new.top.place (code_at B f.0).code) (sym at.function);
                 fine = h.0.is.fine;

@@ -5,17 +5,18 @@ use Rattle.core_terms.specs.Types.{Ty}
 use Rattle.core_terms.specs.Values.{Values, NoV, AndV, AreIdeal, AreShallow}
 use Rattle.core_terms.specs.Terms.{Program, IsTyped, function_at}
 use Rattle.core_terms.specs.Projection.{digest_at}
-use Rattle.ideal_meaning.specs.Run.{Gives, Ends, call_from}
+use Rattle.ideal_meaning.specs.Run.{Gives, Ends}
+use Rattle.ideal_meaning.specs.Called.{call_from}
 use Rattle.ideal_meaning.specs.Ideal.{Opened, ideal_mode}
 use Rattle.ideal_meaning.specs.PieceForms.{as_whole}
 use Rattle.ideal_meaning.specs.Checked.{Cause, Taking, checked_mode, checked_mode_as}
-use Rattle.code_gen.specs.Code.{Body, code_at, generated}
-use Rattle.code_meaning.specs.Execution.{Coded, Ran, Stuck, then_coded, call_code_from}
-use Rattle.code_meaning.specs.Accept.{Shape, shape, IsFine}
-use Rattle.code_meaning.specs.Modes.{ideal_kind, digest_kind}
-use Rattle.code_meaning.proofs.Follows.{right, code_found}
-use Rattle.code_meaning.proofs.ModeLaws.{ideal_laws, checked_laws, fetched_laws, ideals_are, shallows_are}
-use Rattle.code_meaning.proofs.Generated.{generated_accepted}
+use Rattle.core_terms.specs.Bodies.{Body, code_at}
+use Rattle.code_gen.specs.Code.{generated}
+use Rattle.ideal_meaning.specs.Execution.{Coded, Ran, Stuck, then_coded, call_code_from}
+use Rattle.core_terms.specs.Accepted.{Shape, shape, IsFine}
+use Rattle.ideal_meaning.specs.ModeKinds.{ideal_kind, digest_kind}
+use Rattle.code_meaning.proofs.CodeRight.{right, signature_found, functions_found, generated_accepted}
+use Rattle.ideal_meaning.proofs.ModeLaws.{ideal_laws, checked_laws, fetched_laws, ideals_are, shallows_are}
 use Rattle.value_store.specs.Nodes.{Node}
 use Rattle.value_store.specs.Standing.{IdealNodes, ProverNodes, VerifierNodes, AllStandFor}
 use Rattle.value_store.specs.Markings.{Marking, IdealMarking, ProverMarking, VerifierMarking, FetcherMarking, kind_of}
@@ -98,7 +99,7 @@ module _ (m : Marking) (P : Program) (typed : IsTyped P) (f : ℕ) (there : f < 
   started = record { top = values k; waits = [] }
 
   parameters_same : (function_at P f).parameters ≡ (code_at B f).parameters
-  parameters_same = ap (λ c. c.parameters) (sym (code_found P f))
+  parameters_same = sym (signature_found P typed f).0
 
   deep : (k : ℕ) → k ≤ suc (pred k)
   deep zero = omega arith
@@ -108,7 +109,7 @@ module _ (m : Marking) (P : Program) (typed : IsTyped P) (f : ℕ) (there : f < 
   shown = record {
     top = record {
       is = record {
-        there = subst (λ f. f < length P.functions) (sym starts.function) there;
+        there = subst (λ f. f < length (generated P).functions) (sym starts.function) (subst (λ n. f < n) (sym (functions_found P typed)) there);
         result = ap (λ f. (code_at B f).result) (sym starts.function);
         left = ap (λ p. drop p (code_at B f).code) (sym starts.place) ∙ ap (λ f. drop state.top.place (code_at B f).code) (sym starts.function);
         fine = accepted.1;
@@ -118,7 +119,7 @@ module _ (m : Marking) (P : Program) (typed : IsTyped P) (f : ℕ) (there : f < 
       };
       starts = accepted.2;
     };
-    waits = subst (λ l. AreWaiting m P nodes (function_at P f).result (code_at B f).result (reverse l) []) (sym starts.nothing_waits) (ap (λ c. c.result) (code_found P f));
+    waits = subst (λ l. AreWaiting m P nodes (function_at P f).result (code_at B f).result (reverse l) []) (sym starts.nothing_waits) (signature_found P typed f).1;
     deep = subst (λ b. IsDeep b state.fuel (values k)) (sym starts.entered) (subst (λ n. n ≤ suc (pred k)) (sym starts.fuel) (deep k));
     deep_below = tt;
   }
@@ -150,12 +151,12 @@ starts_steps P f args k state starts =
     ap₂ (λ b l. state.fuel * (size + 1) + (left_if b (frame_left P state.top) + frames_left P (reverse l))) starts.entered starts.nothing_waits
     ∙ ap (λ n. n * (size + 1) + (0 + 0)) starts.fuel ∙ none
 
--- 10^12 calls, of at most 1,049,600 instructions each, open fewer than 2^61 values
+-- 10^12 calls, of at most 4,194,304 instructions each, open fewer than 2^62 values
 pub starts_few : (code : Code) (f : ℕ) (args : List Ref) (k : ℕ) (state : State) → Starts f args k state → k ≤ 10 ^ 12 → (opened : ℕ) → opened ≤ 2 ^ 62
     → OpensFew opened (program_of code) state
 starts_few code f args k state starts most opened before =
     let size = code_size (generated (program_of code)).functions in
     let short = code_has_a_limit code in
     let steps = starts_steps (program_of code) f args k state starts in
-    let calls : k * (size + 1) ≤ 10 ^ 12 * 1049601 = mul-le-mul {n₁ = k} {m₁ = size + 1} {n₂ = 10 ^ 12} {m₂ = 1049601} most (omega (arith, short)) in
+    let calls : k * (size + 1) ≤ 10 ^ 12 * 4194305 = mul-le-mul {n₁ = k} {m₁ = size + 1} {n₂ = 10 ^ 12} {m₂ = 4194305} most (omega (arith, short)) in
     omega (arith, steps, calls, before)

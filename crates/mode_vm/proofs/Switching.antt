@@ -5,10 +5,11 @@ use Rattle.core_terms.specs.Types.{Ty, Table, NamedTy, fields_at, OnFields}
 use Rattle.core_terms.specs.Values.{Value, Values, NoV, AndV, ConV}
 use Rattle.core_terms.specs.Terms.{Program}
 use Rattle.ideal_meaning.specs.Run.{join}
-use Rattle.code_gen.specs.Instructions.{Switch}
-use Rattle.code_gen.specs.Code.{Body, code_at, generated}
-use Rattle.code_meaning.specs.Execution.{held, tie, act, where_some}
-use Rattle.code_meaning.specs.Accept.{Fits}
+use Rattle.core_terms.specs.Instructions.{Switch}
+use Rattle.core_terms.specs.Bodies.{Body, code_at}
+use Rattle.code_gen.specs.Code.{generated}
+use Rattle.ideal_meaning.specs.Execution.{held, tie, act, where_some}
+use Rattle.core_terms.specs.Accepted.{Fits}
 use Rattle.value_store.specs.Nodes.{Node, ConNode, form_at}
 use Rattle.value_store.specs.Standing.{Kind, StandsFor, AllStandFor}
 use Rattle.value_store.specs.Markings.{Marking, kind_of}

@@ -4,12 +4,13 @@ use Rattle.core_terms.specs.Types.{Ty}
 use Rattle.core_terms.specs.Values.{Values}
 use Rattle.core_terms.specs.Terms.{Program, function_at}
 use Rattle.ideal_meaning.specs.Run.{Ends, IsOut}
-use Rattle.code_gen.specs.Instructions.{Instruction, Unbind, Jump, Call, Return, Auth, Unauth}
-use Rattle.code_gen.specs.Code.{code_at, generated}
+use Rattle.core_terms.specs.Instructions.{Instruction, Unbind, Jump, Call, Return, Auth, Unauth}
+use Rattle.core_terms.specs.Bodies.{code_at}
+use Rattle.code_gen.specs.Code.{generated}
 use Rattle.code_gen.specs.CodeSizes.{code_size}
-use Rattle.code_meaning.specs.Execution.{Coded, Ran, tie, then_coded}
+use Rattle.ideal_meaning.specs.Execution.{Coded, Ran, tie, then_coded}
 use Rattle.code_meaning.specs.Steps as steps
-use Rattle.code_meaning.specs.Accept.{Shape, shape, IsFine}
+use Rattle.core_terms.specs.Accepted.{Shape, shape, IsFine}
 use Rattle.value_store.specs.Nodes.{Node}
 use Rattle.value_store.specs.Standing.{AllStandFor}
 use Rattle.value_store.specs.Markings.{Marking, kind_of}
@@ -95,7 +96,7 @@ module _ (m : Marking) (P : Program) where
 
   module _ (nodes : List Node) where
     pub record IsFrame (frame : Frame) (c : ValueFrame) : Type 0 where
-      pub there : frame.function.0 < length P.functions
+      pub there : frame.function.0 < length (generated P).functions
       pub result : c.result ≡ (code_at (generated P) frame.function.0).result
       pub left : c.left ≡ drop frame.place (code_at (generated P) frame.function.0).code
       pub fine : IsFine (generated P) c.result c.left c.shapes

@@ -8,8 +8,8 @@ use Rattle.core_terms.specs.declared.outcome.Outcome.{Outcome}
 use Rattle.core_terms.specs.declared.outcome.Outcome.TheVariants.{Done, Trapped, Out}
 use Rattle.ideal_meaning.specs.Run.{Gives, Ends, Traps, IsOut}
 use Rattle.ideal_meaning.specs.Told.{trap_told}
-use Rattle.code_gen.specs.Instructions.{Instruction}
-use Rattle.code_meaning.specs.Execution.{Ran}
+use Rattle.core_terms.specs.Instructions.{Instruction}
+use Rattle.ideal_meaning.specs.Execution.{Ran}
 use Rattle.value_store.specs.Nodes.{Node}
 use Rattle.value_store.specs.Standing.{StandsFor}
 use Rattle.value_store.specs.Markings.{Marking, kind_of}

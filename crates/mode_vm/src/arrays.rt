@@ -1,7 +1,7 @@
 // The instructions on arrays. They are rare, so they are not inlined into the loop that does every instruction.
 ghost use Rattle.std.specs.Prelude.{◌≡◌, ◌+◌, ◌<◌, ◌^◌, ℕ, true, IfOk, length, nat_lt, replicate, slice_set};
 ghost use Rattle.std.specs.List.{list_all};
-ghost use Rattle.code_gen.specs.Instructions as instruction;
+ghost use Rattle.core_terms.specs.Instructions as instruction;
 ghost use Rattle.core_terms.specs.Types.{IntTy, Table, Ty, VecTy, is_length, item_types};
 ghost use Rattle.core_terms.specs.Values.{ItemsV, Value, Values};
 ghost use Rattle.ideal_meaning.specs.Run as meant;

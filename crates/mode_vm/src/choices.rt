@@ -1,8 +1,9 @@
 // Choices and jumps.
 ghost use Rattle.std.specs.Prelude.{◌≡◌, ◌+◌, ◌<◌, ◌^◌, length};
-ghost use Rattle.code_gen.specs.Instructions as instruction;
+ghost use Rattle.core_terms.specs.Instructions as instruction;
 ghost use Rattle.value_store.specs.Standing.{Keeps};
-ghost use Rattle.code_gen.specs.Code.{code_at, generated};
+ghost use Rattle.core_terms.specs.Bodies.{code_at};
+ghost use Rattle.code_gen.specs.Code.{generated};
 ghost use Rattle.mode_vm.specs.Meanings.{program_of};
 
 use crate::frame::Frame;

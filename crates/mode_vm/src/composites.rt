@@ -1,6 +1,6 @@
 // The instructions on pairs and constructors.
 ghost use Rattle.std.specs.Prelude.{◌≡◌, ◌+◌, ◌<◌, ◌^◌, ℕ, true, List, IfOk, Some, length, nat_lt};
-ghost use Rattle.code_gen.specs.Instructions as instruction;
+ghost use Rattle.core_terms.specs.Instructions as instruction;
 ghost use Rattle.std.specs.List.{list_all};
 ghost use Rattle.core_terms.specs.ProgramTypes.{named_table};
 ghost use Rattle.core_terms.specs.Types.{NamedTy, PairTy, Table, Ty, fields_at};

@@ -3,14 +3,15 @@ ghost use Rattle.std.specs.Prelude.{◌≡◌, ◌+◌, ◌<◌, ◌≤◌, ◌^
 ghost use Rattle.core_terms.specs.Programs.{types_of};
 ghost use Rattle.value_store.specs.Markings.{HasLimit};
 ghost use Rattle.value_store.specs.Standing.{Keeps};
-ghost use Rattle.code_gen.specs.Code.{code_at, generated};
-ghost use Rattle.code_gen.specs.CodeTrees.{instruction_of};
+ghost use Rattle.core_terms.specs.Bodies.{code_at};
+ghost use Rattle.code_gen.specs.Code.{generated};
+ghost use Rattle.core_terms.specs.InstructionViews.{instruction_of};
 ghost use Rattle.code_gen.specs.Programs.{program_in};
 ghost use Rattle.mode_vm.specs.Meanings.{program_of};
 
 use crate::operand::Operand;
-use code_gen::{Code, Instruction};
-use core_terms::{FunctionId, Trap};
+use code_gen::Code;
+use core_terms::{FunctionId, Instruction, Trap};
 use std::alloc::AllocError;
 use value_store::Nodes;
 

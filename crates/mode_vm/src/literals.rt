@@ -1,7 +1,7 @@
 // The instructions that push a literal.
 ghost use Rattle.std.specs.Prelude.{◌≡◌, ◌+◌, ◌<◌, ◌^◌};
 ghost use Rattle.value_store.specs.Standing.{Keeps};
-ghost use Rattle.code_gen.specs.Instructions as instruction;
+ghost use Rattle.core_terms.specs.Instructions as instruction;
 ghost use Rattle.core_terms.specs.Texts.{bytes_of};
 ghost use Rattle.mode_vm.specs.Meanings.{program_of};
 

@@ -1,6 +1,6 @@
 // The instructions that read, bind and drop locals.
 ghost use Rattle.std.specs.Prelude.{◌≡◌, ◌+◌, ◌<◌, ◌^◌};
-ghost use Rattle.code_gen.specs.Instructions as instruction;
+ghost use Rattle.core_terms.specs.Instructions as instruction;
 ghost use Rattle.mode_vm.specs.Meanings.{program_of};
 
 use crate::frame::Frame;

@@ -4,19 +4,19 @@ ghost use Rattle.core_terms.specs.Programs.{types_of};
 ghost use Rattle.core_terms.specs.Types.{Ty};
 ghost use Rattle.core_terms.specs.Values.{Values};
 ghost use Rattle.core_terms.specs.Terms.{function_at};
-ghost use Rattle.ideal_meaning.specs.Run.{call_from};
+ghost use Rattle.ideal_meaning.specs.Called.{call_from};
 ghost use Rattle.value_store.specs.Markings.{HasLimit};
 ghost use Rattle.value_store.specs.Nodes.{Node};
 ghost use Rattle.value_store.specs.Standing.{Keeps};
 ghost use Rattle.code_gen.specs.Programs.{program_in};
-ghost use Rattle.code_gen.specs.CodeTrees.{instruction_of};
+ghost use Rattle.core_terms.specs.InstructionViews.{instruction_of};
 ghost use Rattle.mode_vm.specs.Meanings.{RunOf, StateOf, mode_of, program_of};
 
 use crate::mode::{Mode, Stop};
 use crate::operand::{Operand, node_in, place};
 use crate::state::{State, Step};
-use code_gen::{Code, Instruction};
-use core_terms::{FunctionId, Outcome, TyId};
+use code_gen::Code;
+use core_terms::{FunctionId, Instruction, Outcome, TyId};
 use std::alloc::{AllocError, Global};
 use value_store::{Nodes, Ref};
 

@@ -1,6 +1,6 @@
 // The instructions on texts.
 ghost use Rattle.std.specs.Prelude.{◌≡◌, ◌+◌, ◌<◌, ◌^◌, ◌++◌, ℕ, List, IfOk, length};
-ghost use Rattle.code_gen.specs.Instructions as instruction;
+ghost use Rattle.core_terms.specs.Instructions as instruction;
 ghost use Rattle.core_terms.specs.Types.{Table, TextTy};
 ghost use Rattle.core_terms.specs.Values.{TextV, Value};
 ghost use Rattle.ideal_meaning.specs.Run as meant;

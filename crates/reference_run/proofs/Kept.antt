@@ -6,14 +6,14 @@ use Rattle.std.proofs.lemmas.Str.{IsUtf8-append}
 use Rattle.core_terms.specs.Types.{Ty, BoolTy, IntTy, TextTy, PairTy, NamedTy, AuthTy, VecTy, fields_at, item_types}
 use Rattle.core_terms.specs.Formats.{IsFormat, depth_limit}
 use Rattle.core_terms.specs.Values.{Value, UnitV, BoolV, IntV, TextV, PairV, ConV, ItemsV, Values, NoV, AndV, AreIdeal, AuthWithinAll, int_fits, size, depth}
-use Rattle.core_terms.specs.Terms.{Expression, UnitE, BoolE, IntE, TextE, LocalE, PairE, FstE, SndE, NotE, LenE, AuthE, UnauthE, ConE, ArithE, CompareE, TextCompareE, CatE, LetE, IfE, MatchE, CallE, OperateE, Operation, VecFill, VecGet, VecPut, operand_types, result_type, Expressions, NoE, AndE, Arms, NoArm, AndArm, Function, no_function, OnFunction, Program, function_at, HasType, HaveTypes, HaveArms, IsTyped}
+use Rattle.core_terms.specs.Terms.{Expression, UnitE, BoolE, IntE, TextE, LocalE, PairE, FstE, SndE, NotE, LenE, AuthE, UnauthE, ConE, ArithE, CompareE, TextCompareE, CatE, LetE, IfE, MatchE, CallE, OperateE, Operation, VecFill, VecGet, VecPut, operand_types, result_type, Expressions, NoE, AndE, Arms, NoArm, AndArm, Function, no_function, OnFunction, Program, function_at, HasType, HaveTypes, HaveArms, IsWrittenWell}
 use Rattle.core_terms.specs.Projection.{AllFit}
 use Rattle.core_terms.specs.declared.term.Arith.{Arith}
 use Rattle.core_terms.specs.declared.term.Arith.TheVariants.{Add, Sub, Mul, Div, Rem}
 use Rattle.core_terms.proofs.Numbers.{mag_of, of_mag}
 use Rattle.core_terms.proofs.Fields.{on_fields}
 use Rattle.ideal_meaning.specs.Run.{Traps, Overflow, Run, Gives, Ends, then_run, local, join, bool_in, int_in, text_in, tag_in, fields_in, items_in, repeated, replaced, divided, arith_of, choose, limited, at_index, get_of, put_of, operate, run, run_all, run_arm, call}
-use Rattle.ideal_meaning.specs.Ideal.{Opened, ideal, ideal_mode}
+use Rattle.ideal_meaning.specs.Ideal.{Opened, ideal_mode}
 use Rattle.ideal_meaning.proofs.InHand.{int_fits_in, utf8_in, length_in, at_con, at_items, item_type_at, IsHeld, AreHeld, held_unit, held_bool, held_int, held_text, held_local, held_join, held_pair, held_first, held_second, held_con, held_parts, held_items, held_elements, held_repeated, held_replaced, held_auth, held_inputs}
 
 abbrev IdealRun : Type 0 → Type 0
@@ -238,7 +238,7 @@ module _ (P : Program) (format : IsFormat P.format) where
           holds body (ts ++ us) t (subst (λ c. HasType P (ts ++ c) body t) same h.0) (join env vs) k s (held_join P Everywhere ts us env vs i j)
       arm_holds (AndArm body arms) ts (c ∷ cs) t h (suc tag) us e env vs k s i j = arm_holds arms ts cs t h.1 tag us e env vs k s i j
 
-  module _ (typed : IsTyped P) where
+  module _ (typed : IsWrittenWell P) where
     -- the body of each function, also of one that isn't there, has its type
     body_typed : (f : ℕ) → HasType P (function_at P f).parameters (function_at P f).body (function_at P f).result
     body_typed f = by (slice_get P.functions f) refl
@@ -254,6 +254,6 @@ module _ (P : Program) (format : IsFormat P.format) where
         holds (call P ideal_mode n) (calls_hold n) (function_at P f).body (function_at P f).parameters (function_at P f).result (body_typed f) vs k s h
 
     -- a call from outside, on ideal values within the limits
-    pub ideal_holds : (f : ℕ) (vs : Values) (k : ℕ) → AreIdeal P.types (function_at P f).parameters vs → AllFit P (function_at P f).parameters vs
-        → AuthWithinAll P.format.limit P.types (function_at P f).parameters vs → Holds (Held (function_at P f).result) (ideal P f vs k)
-    ideal_holds f vs k ideals fit deep = calls_hold k f vs k [] (held_inputs P Everywhere (function_at P f).parameters vs ideals fit (λ d. deep))
+    pub bodies_hold : (f : ℕ) (vs : Values) (k : ℕ) → AreIdeal P.types (function_at P f).parameters vs → AllFit P (function_at P f).parameters vs
+        → AuthWithinAll P.format.limit P.types (function_at P f).parameters vs → Holds (Held (function_at P f).result) (call P ideal_mode k f vs k [])
+    bodies_hold f vs k ideals fit deep = calls_hold k f vs k [] (held_inputs P Everywhere (function_at P f).parameters vs ideals fit (λ d. deep))

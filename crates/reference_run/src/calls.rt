@@ -1,5 +1,5 @@
 // Calls of a program's functions on ideal values.
-ghost use Rattle.std.specs.Prelude.{◌≡◌, ◌≤◌, IfOk, OnOk};
+ghost use Rattle.std.specs.Prelude.{◌≡◌, ◌≤◌, IfOk, None, OnOk};
 ghost use Rattle.core_terms.specs.Programs.{meaning};
 ghost use Rattle.core_terms.specs.Terms.{function_at};
 ghost use Rattle.ideal_meaning.specs.Ideal.{ideal, outcome};
@@ -13,8 +13,8 @@ use crate::values::Plain;
 use core_terms::{FunctionId, Outcome, Program};
 use std::alloc::{AllocError, Global};
 
-/// Calls a function on these arguments with this much fuel: the outcome is that of the ideal run. A call takes one unit of fuel, and
-/// is out where none is left.
+/// Calls a function on these arguments with this much fuel: of a written program the outcome is that of the ideal run. A call takes one
+/// unit of fuel, and is out where none is left. Of a compiled program nothing is said: it has no bodies to evaluate.
 ///
 /// It calls itself as deep as the program's expressions, calls and values nest, so it is for small runs. An error says that
 /// memory was wanting.
@@ -25,8 +25,8 @@ pub fn plain_run(
     arguments: Vec<Plain>,
     fuel: u64,
 ) -> Result<Outcome<Plain>, AllocError>
-    ensures outcome { IfOk result (λ o. plain_outcome_of o ≡ outcome (ideal (meaning program.now) function.0 (plains_of arguments.items) fuel)) }
-    ensures ideal { let P = meaning program.now in AreArguments P function.0 (plains_of arguments.items) → IfOk result (IsPlainOf P (function_at P function.0).result) }
+    ensures outcome { (meaning program.now).code ≡ None → IfOk result (λ o. plain_outcome_of o ≡ outcome (ideal (meaning program.now) function.0 (plains_of arguments.items) fuel)) }
+    ensures ideal { let P = meaning program.now in P.code ≡ None → AreArguments P function.0 (plains_of arguments.items) → IfOk result (IsPlainOf P (function_at P function.0).result) }
 {
     let mut left = fuel;
     metered_run(alloc, program, function, arguments, &mut left)
@@ -41,10 +41,10 @@ pub fn metered_run(
     arguments: Vec<Plain>,
     fuel: &mut u64,
 ) -> Result<Outcome<Plain>, AllocError>
-    ensures outcome { IfOk result (λ o. plain_outcome_of o ≡ outcome (ideal (meaning program.now) function.0 (plains_of arguments.items) fuel.old)) }
-    ensures left { OnOk result (fuel.new ≡ fuel_of (ideal (meaning program.now) function.0 (plains_of arguments.items) fuel.old)) }
+    ensures outcome { (meaning program.now).code ≡ None → IfOk result (λ o. plain_outcome_of o ≡ outcome (ideal (meaning program.now) function.0 (plains_of arguments.items) fuel.old)) }
+    ensures left { (meaning program.now).code ≡ None → OnOk result (fuel.new ≡ fuel_of (ideal (meaning program.now) function.0 (plains_of arguments.items) fuel.old)) }
     ensures less { fuel.new ≤ fuel.old }
-    ensures ideal { let P = meaning program.now in AreArguments P function.0 (plains_of arguments.items) → IfOk result (IsPlainOf P (function_at P function.0).result) }
+    ensures ideal { let P = meaning program.now in P.code ≡ None → AreArguments P function.0 (plains_of arguments.items) → IfOk result (IsPlainOf P (function_at P function.0).result) }
 {
     let evaluator = Evaluator::new(program, alloc);
     match evaluator.call(function, Ok(arguments), fuel) {

@@ -1,6 +1,7 @@
 use Rattle.std.proofs.Common.{length, ◌-◌, ◌≡◌}
-use Rattle.code_gen.specs.Code.{code_at, generated}
-use Rattle.code_gen.specs.CodeTrees.{instructions_of}
+use Rattle.core_terms.specs.Bodies.{code_at}
+use Rattle.code_gen.specs.Code.{generated}
+use Rattle.core_terms.specs.InstructionViews.{instructions_of}
 use Rattle.code_gen.specs.Programs.{program_in}
 use Rattle.core_terms.specs.Programs.{types_of}
 use Rattle.mode_vm.specs.Machines.{GivesBack}

@@ -4,10 +4,10 @@ use Rattle.core_terms.specs.Types.{Ty}
 use Rattle.core_terms.specs.Programs.{meaning, types_of}
 use Rattle.value_store.specs.Markings.{Marking}
 use Rattle.value_store.specs.Nodes.{Node}
-use Rattle.code_gen.specs.CodeTrees.{instruction_of}
-use Rattle.code_gen.specs.Instructions as instruction
+use Rattle.core_terms.specs.InstructionViews.{instruction_of}
+use Rattle.core_terms.specs.Instructions as instruction
 use Rattle.code_gen.specs.Programs.{program_in}
-use Rattle.code_gen.specs.declared.instruction.Instruction.{Instruction}
+use Rattle.core_terms.specs.declared.instruction.Instruction.{Instruction}
 use Rattle.mode_vm.specs.Machines.{Before, ValueFrame}
 use Rattle.mode_vm.specs.Meanings.{program_of}
 use Rattle.mode_vm.specs.declared.frame.Frame.{Frame}

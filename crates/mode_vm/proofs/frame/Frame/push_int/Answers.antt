@@ -2,7 +2,7 @@ use Rattle.std.proofs.Common.{refl, Ok, subst, arith}
 use Rattle.core_terms.specs.Types.{IntTy}
 use Rattle.core_terms.specs.Values.{IntV}
 use Rattle.ideal_meaning.specs.Run.{Gives}
-use Rattle.code_gen.specs.Instructions as instruction
+use Rattle.core_terms.specs.Instructions as instruction
 use Rattle.mode_vm.specs.Meanings.{program_of}
 use Rattle.mode_vm.specs.declared.operand.Operand.TheVariants.{Int as IntIn}
 use Rattle.mode_vm.specs.StateParts.{Finishes}

@@ -5,7 +5,7 @@ use Rattle.core_terms.specs.Values.{TextV}
 use Rattle.ideal_meaning.specs.Run.{Gives}
 use Rattle.value_store.specs.Markings.{kind_of}
 use Rattle.value_store.specs.Standing.{StandsFor}
-use Rattle.code_gen.specs.Instructions as instruction
+use Rattle.core_terms.specs.Instructions as instruction
 use Rattle.mode_vm.specs.Meanings.{program_of}
 use Rattle.mode_vm.specs.declared.operand.Operand.TheVariants.{At}
 use Rattle.mode_vm.proofs.Frames.{fits_next}

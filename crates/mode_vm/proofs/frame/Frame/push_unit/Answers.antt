@@ -2,7 +2,7 @@ use Rattle.std.proofs.Common.{refl, Ok}
 use Rattle.core_terms.specs.Types.{UnitTy}
 use Rattle.core_terms.specs.Values.{UnitV}
 use Rattle.ideal_meaning.specs.Run.{Gives}
-use Rattle.code_gen.specs.Instructions as instruction
+use Rattle.core_terms.specs.Instructions as instruction
 use Rattle.mode_vm.specs.Meanings.{program_of}
 use Rattle.mode_vm.specs.declared.operand.Operand.TheVariants.{Unit as UnitIn}
 use Rattle.mode_vm.proofs.Frames.{fits_next}

@@ -2,7 +2,7 @@ use Rattle.std.proofs.Common.{subst, true, refl, sym, ◌≡◌}
 use Rattle.core_terms.specs.Programs.{meaning, types_of}
 use Rattle.core_terms.specs.TypeTables.{type_at}
 use Rattle.code_gen.specs.Programs.{program_in}
-use Rattle.code_meaning.specs.Execution.{Ran}
+use Rattle.ideal_meaning.specs.Execution.{Ran}
 use Rattle.value_store.specs.Markings.{kind_of}
 use Rattle.mode_vm.specs.declared.operand.Operand.TheVariants.{At}
 use Rattle.mode_vm.specs.Meanings.{program_of}

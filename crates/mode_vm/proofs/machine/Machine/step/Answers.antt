@@ -2,10 +2,10 @@ use Rattle.std.specs.declared.alloc.AllocError.{AllocError}
 use Rattle.std.proofs.Common.{subst, arith, true, false, [], refl, ap, sym, ◌∙◌, ◌≡◌}
 use Rattle.core_terms.specs.Programs.{types_of}
 use Rattle.code_gen.specs.Programs.{program_in}
-use Rattle.code_gen.specs.CodeTrees.{instruction_of}
+use Rattle.core_terms.specs.InstructionViews.{instruction_of}
 use Rattle.mode_vm.specs.StateParts.{fuel_after}
 use Rattle.mode_vm.specs.Machines.{IsNext, end_of}
-use Rattle.code_meaning.specs.Execution.{Ran}
+use Rattle.ideal_meaning.specs.Execution.{Ran}
 use Rattle.mode_vm.specs.Meanings.{program_of}
 use Rattle.mode_vm.proofs.OwnInstructions.{asked, opened, plain}
 use Rattle.mode_vm.proofs.SparedNodes.{same_puts}

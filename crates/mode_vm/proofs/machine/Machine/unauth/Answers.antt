@@ -1,14 +1,13 @@
 use Rattle.mode_vm.specs.declared.operand.Operand.TheVariants.{At}
 use Rattle.std.proofs.lemmas.Result.{err_from_is_err_and}
-use Rattle.std.proofs.Common.{subst, sym, refl, ◌∙◌, Ok, Err, ◌≡◌}
+use Rattle.std.proofs.Common.{subst, sym, ◌∙◌, Ok, Err, ◌≡◌}
 use Rattle.core_terms.specs.Programs.{meaning, types_of}
 use Rattle.core_terms.specs.ProgramTypes.{types_meaning}
-use Rattle.value_store.specs.Markings.{HasLimit}
 use Rattle.core_terms.specs.TypeTables.{type_at}
 use Rattle.core_terms.specs.Types.{AuthTy}
 use Rattle.code_gen.specs.Programs.{program_in}
 use Rattle.mode_vm.specs.Machines.{end_of}
-use Rattle.code_meaning.specs.Execution.{Ran}
+use Rattle.ideal_meaning.specs.Execution.{Ran}
 use Rattle.mode_vm.proofs.Made.{from_popped}
 use Rattle.mode_vm.proofs.Opens.{is_node, stands_at, operand, stop_is, ran_is, refused, opened_cores, opened_shows, opened_same, rest_then}
 use Rattle.mode_vm.proofs.TypesAlone.{operand_by, opens_at, opens_by, some_by}

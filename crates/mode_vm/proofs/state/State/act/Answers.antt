@@ -2,7 +2,7 @@ use Rattle.std.proofs.Common.{subst, refl, sym, true, Ok}
 use Rattle.mode_vm.specs.declared.state.State.{State}
 use Rattle.core_terms.specs.Programs.{types_of}
 use Rattle.code_gen.specs.Programs.{program_in}
-use Rattle.code_gen.specs.CodeTrees.{instruction_of}
+use Rattle.core_terms.specs.InstructionViews.{instruction_of}
 use Rattle.mode_vm.specs.Machines.{IsNext}
 use Rattle.mode_vm.specs.Outcomes.{Leads}
 use Rattle.mode_vm.specs.Meanings.{program_of}
