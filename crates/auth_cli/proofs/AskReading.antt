@@ -1,4 +1,4 @@
--- Scripts that are read, and what stands behind them: for `steps_in`, `read_script_file`.
+-- Scripts that are read, and what stands behind them.
 use Rattle.std.proofs.Common.{◌≡◌, ℕ, List, map, Option, Some, Result, Ok, Err, IsErrAnd, Vec, vec_items, sym, ap, ◌∙◌, subst}
 use Rattle.std.specs.declared.alloc.Global.{Global}
 use Rattle.core_terms.specs.Programs.{constructor_names, meaning}
@@ -9,11 +9,15 @@ use Rattle.ask_script.specs.Scripts.{Script, UserStep, script_of}
 use Rattle.ask_script.specs.declared.script.ScriptFault.{ScriptFault}
 use Rattle.ask_script.specs.declared.script.ScriptFault.TheVariants as script_fault
 use Rattle.ask_script.specs.declared.step.Step.{Step}
-use Rattle.file_commands.specs.Answer.{Answer, script_read, with_script, with_steps}
+use Rattle.file_commands.specs.Answer.{Answer, Asking, script_read, with_script, with_steps}
 use Rattle.file_commands.specs.Halting.{GoesOn, InHand, of_script_fault}
 use Rattle.file_commands.specs.ReadPrograms.{named_of}
+use Rattle.file_commands.specs.SoundPrograms.{IsOfText}
 use Rattle.file_commands.specs.declared.report.Halt.{Halt}
 use Rattle.file_commands.specs.declared.report.Halt.TheVariants.{Usage, Refused, ReadFault, NoMemory}
+use Rattle.auth_cli.specs.Asking.{IsOfScript, IsOfTexts}
+use Rattle.auth_cli.specs.PreparedClients.{asked_with}
+use Rattle.auth_cli.specs.declared.asking.AskInputs.{AskInputs}
 use Rattle.file_commands.proofs.Steps.{halts_behind}
 
 module _ (p : Program) (text : List ℕ) where
@@ -46,3 +50,8 @@ goes_on_behind first a next value (Err (Refused (refusal.Input fault))) is goes 
 goes_on_behind first a next value (Err (Refused (refusal.Proof cause))) is goes = absurd goes
 goes_on_behind first a next value (Err ReadFault) is goes = absurd goes
 goes_on_behind first a next value (Err NoMemory) is goes = λ go. tt
+
+-- What is asked with inputs that were read for one program is of texts, where that is the program of a text.
+pub asked_of_texts : (p q : Program) (inputs : AskInputs) (a : Asking) → p ≡ q → IsOfScript (named_of p) (map step_meant inputs.steps.items) → IsOfText (meaning q) → a ≡ asked_with q inputs → IsOfTexts a
+asked_of_texts p q inputs a same script text is =
+    subst IsOfTexts (sym is) (record { program = text; script = subst (λ (r : Program). IsOfScript (named_of r) (map step_meant inputs.steps.items)) same script })

@@ -10,7 +10,7 @@ pub mod ServeRuns  -- `serve_command`
 pub mod ServedVersions  -- the law `served_versions`
 pub mod ServeStored  -- `store_last`, `tell_unstored`
 pub mod ServeTexts  -- `serve`: texts behind one another
-pub mod AskReading  -- `steps_in`, `read_script_file`
+pub mod AskReading  -- `steps_in`, `read_script_file`, `read_asking`
 pub mod AskLinks  -- `ask`: the link that was made, and the play on it
 pub mod AskCounted  -- `ask_command`: clauses `counts`, `possible`
 pub mod AskRuns  -- `ask_command`: clauses `ends`, `reached`

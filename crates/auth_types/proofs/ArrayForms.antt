@@ -9,7 +9,7 @@ use Rattle.core_terms.specs.TypeTables.{is_form_in, type_of_form, types_behind, 
 use Rattle.core_terms.specs.declared.format.Format.{Format}
 use Rattle.core_terms.specs.declared.types.TyForm.{TyForm}
 use Rattle.core_terms.specs.declared.types.TyForm.TheVariants.{VecForm}
-use Rattle.core_terms.proofs.TypingSound.{first_of, second_of}
+use Rattle.core_terms.proofs.SameTypes.{first_of, second_of}
 
 module _ (format : Format) where
   -- a type that programs of the format may have, by its outermost form

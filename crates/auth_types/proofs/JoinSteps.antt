@@ -8,11 +8,10 @@ use Rattle.core_terms.specs.declared.types.TyId.{TyId}
 use Rattle.core_terms.specs.ProgramLimits.{most_locals}
 use Rattle.core_terms.specs.Terms.{Expression, LetE}
 use Rattle.core_terms.specs.TypeTables.{type_at}
-use Rattle.core_terms.specs.Types.{Ty, UnitTy}
-use Rattle.core_terms.specs.Typing.{same_type}
+use Rattle.core_terms.specs.Types.{Ty, UnitTy, same_type}
 use Rattle.core_terms.proofs.TermViews.{expression-Let}
 use Rattle.core_terms.proofs.TypingComplete.{same_self}
-use Rattle.core_terms.proofs.TypingSound.{same_sound}
+use Rattle.core_terms.proofs.SameTypes.{same_sound}
 use Rattle.lexemes.specs.declared.place.Place.{Place}
 use Rattle.auth_syntax.specs.Syntax.{ExpSyntax, NameSyntax, LetSyntax, place_of}
 use Rattle.declared_types.specs.Checking.{Checking, Sound, FaultAt, then_checked, unless_fault}

@@ -1,10 +1,9 @@
 -- What an answer of a step of a pass says, whether a fault is found or none is; and what the steps give where the answers of their parts are known.
 use Rattle.std.proofs.Common.{◌≡◌, ℕ, Bool, true, false, refl, ap, ◌∙◌, subst, nat_lt, nat_eq, ◌<◌, lt-ltb, ltb-true, eqb-true, arith}
 use Rattle.std.specs.Bool.{Decides}
-use Rattle.core_terms.specs.Types.{Ty}
+use Rattle.core_terms.specs.Types.{Ty, same_type}
 use Rattle.core_terms.specs.Terms.{Expression}
-use Rattle.core_terms.specs.Typing.{same_type}
-use Rattle.core_terms.proofs.TypingSound.{same_sound}
+use Rattle.core_terms.proofs.SameTypes.{same_sound}
 use Rattle.core_terms.proofs.TypingComplete.{same_self, same_complete}
 use Rattle.lexemes.specs.declared.place.Place.{Place}
 use Rattle.declared_types.specs.Checking.{Checking, Sound, FaultAt, then_checked, unless_fault}

@@ -5,9 +5,8 @@ use Rattle.std.specs.declared.alloc.Global.{Global}
 use Rattle.std.specs.declared.boxed.Box.{Box}
 use Rattle.std.proofs.lemmas.Option.{get_or_from_slice_get}
 use Rattle.core_terms.specs.declared.term.BinaryOperator.{BinaryOperator}
-use Rattle.core_terms.specs.Types.{Ty, is_length, UnitTy, BoolTy, IntTy, TextTy, PairTy, AuthTy}
+use Rattle.core_terms.specs.Types.{Ty, is_length, UnitTy, BoolTy, IntTy, TextTy, PairTy, AuthTy, same_type}
 use Rattle.core_terms.specs.Terms.{Expression, LenE, NotE}
-use Rattle.core_terms.specs.Typing.{same_type}
 use Rattle.core_terms.specs.ProgramFormats.{arrays_of}
 use Rattle.core_terms.specs.TypeTables.{is_form_in, type_at, stands_behind, type_of_form}
 use Rattle.core_terms.specs.declared.format.Format.{Format}
@@ -18,7 +17,7 @@ use Rattle.core_terms.specs.declared.types.TyForm.{TyForm}
 use Rattle.core_terms.specs.declared.types.TyForm.TheVariants.{UnitForm, BoolForm, IntForm, TextForm, AuthForm, PairForm, NamedForm, VecForm}
 use Rattle.core_terms.specs.declared.term.Term.{Term}
 use Rattle.core_terms.specs.declared.term.Term as term
-use Rattle.core_terms.proofs.TypingSound.{same_sound}
+use Rattle.core_terms.proofs.SameTypes.{same_sound}
 use Rattle.core_terms.proofs.TypingComplete.{same_self}
 use Rattle.auth_syntax.specs.Syntax.{FstOperation, SndOperation, AuthOperation, UnauthOperation, LenOperation, NotOperation}
 use Rattle.lexemes.specs.declared.place.Place.{Place}

@@ -1,5 +1,5 @@
 -- The passes on a tree, one after another: the first that finds a fault ends them, and where none does they give the program.
-use Rattle.std.proofs.Common.{◌≡◌, ℕ, List, Result, Ok, Err, refl, sym, ap, ◌∙◌, subst}
+use Rattle.std.proofs.Common.{◌≡◌, ℕ, List, Result, Ok, Err, refl, sym, ap, ◌∙◌, subst, None}
 use Rattle.core_terms.specs.Types.{Ty}
 use Rattle.core_terms.specs.declared.format.Format.{Format}
 use Rattle.core_terms.specs.Terms as tree
@@ -28,7 +28,7 @@ same_refused found other fault same refused = subst (λ found. IsRefused found f
 
 -- the parts of the program that four passes give
 abbrev as_program : Program → List tree.Function → tree.Program
-as_program program functions = record { format = program_format program; types = table_of_program program; state = state_of program; functions = functions }
+as_program program functions = record { format = program_format program; types = table_of_program program; state = state_of program; functions = functions; code = None }
 
 module _ (program : Program) where
   -- the passes behind those that found no fault

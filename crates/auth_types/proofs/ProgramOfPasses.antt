@@ -1,5 +1,5 @@
 -- The program that the passes give, of the parts that the code holds.
-use Rattle.std.proofs.Common.{◌≡◌, ℕ, ◌<◌, true, List, [], ◌∷◌, length, map, nat_lt, refl, sym, ap, ap₂, ◌∙◌, subst, arith, lt-ltb}
+use Rattle.std.proofs.Common.{◌≡◌, ℕ, ◌<◌, true, List, [], ◌∷◌, length, map, nat_lt, refl, sym, ap, ap₂, ◌∙◌, subst, arith, lt-ltb, None}
 use Rattle.std.specs.Prelude.{All}
 use Rattle.std.specs.List.{list_all}
 use Rattle.std.proofs.lemmas.List.{length-map}
@@ -143,12 +143,14 @@ module _ (program : Program) (before : List Ty) (forms : List TyForm) (scope : S
         types = table_of_program program;
         state = state_of program;
         functions = map (function_of (types_of_forms forms)) functions;
+        code = None;
       })) (sym text_made)
       ∙ ap₂ (λ types state. Sound (record {
         format = format_with (format_of program) (declared_text (types_of_forms forms) scope.named.items);
         types = types;
         state = state;
         functions = map (function_of (types_of_forms forms)) functions;
+        code = None;
       })) (sym table) (sym of_state) in
       let sound = typed_and_shaped gives good in
       record {

@@ -1,5 +1,5 @@
 -- The fourth pass is by the typing rules of bodies, and all passes together by the rules of programs.
-use Rattle.std.proofs.Common.{◌≡◌, ℕ, List, [], ◌∷◌, ◌++◌, ◌⊎◌, inl, inr, length, map, refl, sym, ap, ap₂, ◌∙◌, subst}
+use Rattle.std.proofs.Common.{◌≡◌, ℕ, List, [], ◌∷◌, ◌++◌, ◌⊎◌, inl, inr, length, map, refl, sym, ap, ap₂, ◌∙◌, subst, None}
 use Rattle.std.specs.List.{AllZip}
 use Rattle.std.proofs.lemmas.List.{length-map}
 use Rattle.core_terms.specs.Types.{Ty}
@@ -128,7 +128,7 @@ scope_whole format names (FunctionDeclaration at function ∷ rest) = scope_whol
 module _ (program : Program) where
   -- the program with these functions
   abbrev with_functions : List Function → tree.Program
-  with_functions functions = record { format = program_format program; types = table_of_program program; state = state_of program; functions = functions }
+  with_functions functions = record { format = program_format program; types = table_of_program program; state = state_of program; functions = functions; code = None }
 
   abbrev Functions : List Function → Type 0
   Functions = AllZip (FunctionStandsFor (names_of program) (scope_of program)) (functions_in program.declarations)
@@ -182,14 +182,14 @@ module _ (program : Program) where
 
   denotes : (P : tree.Program) → First P → Denotes program P
   denotes P (u, declared, (v, known, (w, roles, (functions, h, is)))) =
-      subst (Denotes program) is (record { declared = declared; known = known; roles = roles; functions = h; types = refl; state = refl; format = refl })
+      subst (Denotes program) is (record { declared = declared; known = known; roles = roles; functions = h; types = refl; state = refl; format = refl; code = refl })
 
   denoted : (P : tree.Program) → Denotes program P → First P
-  denoted P h = (tt, h.declared, (tt, h.known, (tt, h.roles, (P.functions, h.functions, by P.format P.types P.state (sym h.format) (sym h.types) (sym h.state)))))
+  denoted P h = (tt, h.declared, (tt, h.known, (tt, h.roles, (P.functions, h.functions, by P.format P.types P.state P.code (sym h.format) (sym h.types) (sym h.state) (sym h.code)))))
     where
-      by : (format : _) (types : List (List (List Ty))) (state : Ty) → program_format program ≡ format → table_of_program program ≡ types → state_of program ≡ state
-          → with_functions P.functions ≡ record { format = format; types = types; state = state; functions = P.functions }
-      by format types state a b c = cc
+      by : (format : _) (types : List (List (List Ty))) (state : Ty) (code : _) → program_format program ≡ format → table_of_program program ≡ types → state_of program ≡ state → None ≡ code
+          → with_functions P.functions ≡ record { format = format; types = types; state = state; functions = P.functions; code = code }
+      by format types state code a b c d = cc
 
   breaks : (kind : TypeKind) (at : Place) → FirstBreaks kind at → BreaksProgram program kind at
   breaks kind at (inl b) = InDeclared b

@@ -2,14 +2,14 @@
 use Rattle.std.proofs.Common.{◌≡◌, ℕ, Bool, true, false, not, ◌&&◌, List, [], ◌∷◌, map, refl, ap, ap₂, subst}
 use Rattle.std.specs.Prelude.{All}
 use Rattle.std.proofs.lemmas.List.Elements.{All-cons, All-head, All-nil, All-tail}
-use Rattle.core_terms.specs.Types.{Ty, UnitTy, BoolTy, IntTy, TextTy, PairTy, NamedTy, AuthTy, VecTy}
+use Rattle.core_terms.specs.Types.{Ty, UnitTy, BoolTy, IntTy, TextTy, PairTy, NamedTy, AuthTy, VecTy, same_type}
 use Rattle.core_terms.specs.declared.format.Format.{Format}
 use Rattle.core_terms.specs.Terms.{Expression, Function, HasType}
 use Rattle.core_terms.specs.Terms as tree
 use Rattle.core_terms.specs.Roles.{has_auth}
-use Rattle.core_terms.specs.Typing.{all_shaped, all_typed, has_type, same_type, shape_test}
+use Rattle.core_terms.specs.Typing.{all_shaped, all_typed, has_type, shape_test}
 use Rattle.core_terms.proofs.TypingComplete.{both, type_complete}
-use Rattle.core_terms.proofs.TypingSound as test
+use Rattle.core_terms.proofs.SameTypes as test
 use Rattle.auth_syntax.specs.Syntax.{FunctionSyntax, InitSyntax, InnerSyntax, KindSyntax, ParameterSyntax, QuerySyntax, TypeSyntax, UpdateSyntax, place_of, place_of_type}
 use Rattle.declared_types.specs.Checking.{Checking, Sound}
 use Rattle.declared_types.specs.WrittenTypes.{type_meant}

@@ -1,5 +1,5 @@
 -- The laws of the passes, from the lemmas.
-use Rattle.std.proofs.Common.{◌≡◌, ℕ, zero, suc, ◌≤◌, Bool, true, false, ◌||◌, List, [], ◌∷◌, length, map, Some, option_map, slice_get, bytes_eq, refl, sym, ap, ap₂, ◌∙◌, subst, arith}
+use Rattle.std.proofs.Common.{◌≡◌, ℕ, zero, suc, ◌≤◌, Bool, true, false, ◌||◌, List, [], ◌∷◌, length, map, Some, option_map, slice_get, bytes_eq, refl, sym, ap, ap₂, ◌∙◌, subst, arith, None}
 use Rattle.std.proofs.lemmas.List.{length-map}
 use Rattle.std.proofs.lemmas.List.Elements.{All-cons, All-head, All-nil, All-tail}
 use Rattle.std.proofs.lemmas.Option.{slice_get-map}
@@ -10,7 +10,7 @@ use Rattle.core_terms.specs.declared.format.Format.{Format}
 use Rattle.core_terms.specs.Terms.{Function}
 use Rattle.core_terms.specs.Terms as tree
 use Rattle.core_terms.specs.ProgramLimits.{IsFlatType, IsFunctionWithin, expressions_in_all}
-use Rattle.core_terms.specs.Typing.{all_shaped, all_typed}
+use Rattle.core_terms.specs.Typing.{all_shaped, all_typed, is_typed_as}
 use Rattle.auth_syntax.specs.Syntax.{ConstructorDeclaration, DeclarationSyntax, FunctionDeclaration, FunctionSyntax, ParameterSyntax, Program, StateDeclaration, TypeDeclaration}
 use Rattle.declared_types.specs.Checking.{Checking, FaultAt, Sound, is_among, then_checked}
 use Rattle.declared_types.specs.Signatures.{Signature}
@@ -30,7 +30,7 @@ use Rattle.auth_types.proofs.SoundTypes.{AreBelow, as_many_types, declarations_b
 
 -- the program of these functions
 abbrev program_of : Program → List Function → tree.Program
-program_of program functions = record { format = program_format program; types = table_of_program program; state = state_of program; functions = functions }
+program_of program functions = record { format = program_format program; types = table_of_program program; state = state_of program; functions = functions; code = None }
 
 -- what each pass gave
 record Passed (program : Program) (P : tree.Program) : Type 0 where
@@ -100,9 +100,10 @@ scope_is_of_program program P sound = its_scope program P (passed program P soun
 pub checked_is_typed : CheckedIsTyped
 checked_is_typed program P good sound =
     let is = passed program P sound in
-    let fs = functions_in program.declarations in (
-      of_functions program P is (λ gs. all_typed P gs ≡ true)
-          (functions_typed (names_of program) (scope_of program) P (its_scope program P is) fs good),
+    let fs = functions_in program.declarations in
+    let written : None ≡ P.code = ap (λ (P : tree.Program). P.code) is.made in (
+      subst (λ o. is_typed_as P o ≡ true) written (of_functions program P is (λ gs. all_typed P gs ≡ true)
+          (functions_typed (names_of program) (scope_of program) P (its_scope program P is) fs good)),
       of_functions program P is (λ gs. all_shaped P gs ≡ true) (functions_shaped (names_of program) P (scope_of program) fs (shapes program P is)),
     )
 

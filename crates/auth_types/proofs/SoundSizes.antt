@@ -5,9 +5,8 @@ use Rattle.std.proofs.lemmas.List.{length_push}
 use Rattle.std.proofs.Math.Nat.{max-le}
 use Rattle.core_terms.specs.declared.term.BinaryOperator.TheVariants.{Arith, Compare, TextCompare, Cat}
 use Rattle.core_terms.specs.declared.term.BinaryOperator.{BinaryOperator}
-use Rattle.core_terms.specs.Types.{Ty, BoolTy, TextTy, PairTy, NamedTy, AuthTy, fields_at}
+use Rattle.core_terms.specs.Types.{Ty, BoolTy, TextTy, PairTy, NamedTy, AuthTy, fields_at, same_type}
 use Rattle.core_terms.specs.Terms.{Expression, AuthE, Expressions, Arms}
-use Rattle.core_terms.specs.Typing.{same_type}
 use Rattle.core_terms.specs.ProgramLimits.{expressions_in, expressions_in_arms, expressions_in_row, levels_of, levels_of_arms, levels_of_row, locals_in, locals_in_arms, locals_in_row}
 use Rattle.lexemes.specs.declared.place.Place.{Place}
 use Rattle.auth_syntax.specs.Syntax.{NameSyntax, ExpSyntax, UnitSyntax, BoolSyntax, IntSyntax, TextSyntax, LocalSyntax, PairSyntax, UnarySyntax, BinarySyntax, CallSyntax, ConstructorSyntax, OperateSyntax, LetSyntax, IfSyntax, MatchSyntax, ExpsSyntax, NoExp, AndExp, ArmsSyntax, NoArmSyntax, AndArmSyntax, UnaryOperation, FstOperation, SndOperation, AuthOperation, UnauthOperation, LenOperation, NotOperation, ArrayOperation, place_of}

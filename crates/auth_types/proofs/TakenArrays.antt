@@ -4,7 +4,7 @@ use Rattle.core_terms.specs.ProgramFormats.{arrays_of}
 use Rattle.core_terms.specs.Terms.{Operation, VecFill, VecGet, VecPut, is_operation, operand_types}
 use Rattle.core_terms.specs.Types.{Ty, UnitTy, BoolTy, IntTy, TextTy, PairTy, NamedTy, AuthTy, VecTy}
 use Rattle.core_terms.specs.declared.format.Format.{Format}
-use Rattle.core_terms.proofs.TypingSound.{second_of}
+use Rattle.core_terms.proofs.SameTypes.{second_of}
 use Rattle.lexemes.specs.declared.place.Place.{Place}
 use Rattle.auth_syntax.specs.Grammar.{others_of}
 use Rattle.auth_syntax.specs.Syntax.{ArrayOperation, FillOperation, GetOperation, PutOperation}

@@ -1,5 +1,5 @@
 -- The four passes of the checker, on a syntax tree: the program that it gives, or the first fault of the first pass that has one.
-use Rattle.std.specs.Prelude.{ℕ, List}
+use Rattle.std.specs.Prelude.{ℕ, List, None}
 use Rattle.core_terms.specs.Terms as tree
 use Rattle.core_terms.specs.Formats.{Format}
 use Rattle.core_terms.specs.ProgramFormats.{format_with}
@@ -31,7 +31,7 @@ module _ (program : syntax.Program) where
       then_checked (second_pass program) (λ _.
       then_checked (third_pass program) (λ _.
       then_checked fourth_pass (λ functions.
-      Sound (record { format = program_format; types = table_of_program program; state = state_of program; functions = functions })))))
+      Sound (record { format = program_format; types = table_of_program program; state = state_of program; functions = functions; code = None })))))
 
 -- what checking a tree gives: a program, or the first fault with the line and column of its place
 pub data Checked : Type 0 where

@@ -1,5 +1,5 @@
 -- The rules of the language for a whole program: the program that a tree stands for, and the first rule that a tree breaks.
-use Rattle.std.specs.Prelude.{◌≡◌, ℕ, List, [], map}
+use Rattle.std.specs.Prelude.{◌≡◌, ℕ, List, [], None, map}
 use Rattle.std.specs.List.{AllZip}
 use Rattle.core_terms.specs.Terms.{Function}
 use Rattle.core_terms.specs.Terms as tree
@@ -56,6 +56,7 @@ pub record Denotes (program : Program) (P : tree.Program) : Type 0 where
   pub types : P.types ≡ table_of_program program
   pub state : P.state ≡ state_of program
   pub format : P.format ≡ program_format program
+  pub code : P.code ≡ None
 
 -- The tree breaks this rule at this place, which is the first in its pass, and the passes before it find no fault.
 pub data BreaksProgram (program : Program) : TypeKind → Place → Type 0 where

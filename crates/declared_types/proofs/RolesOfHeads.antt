@@ -3,14 +3,13 @@ use Rattle.std.proofs.Common.{◌≡◌, ◌≢◌, ℕ, zero, suc, ◌+◌, ◌
 use Rattle.std.specs.Prelude.{IsTrue}
 use Rattle.std.proofs.lemmas.Bool.{false≢true}
 use Rattle.std.proofs.lemmas.List.{length-map}
-use Rattle.core_terms.specs.Types.{Ty, Table}
+use Rattle.core_terms.specs.Types.{Ty, Table, same_type}
 use Rattle.core_terms.specs.declared.format.Format.{Format}
 use Rattle.core_terms.specs.Roles.{has_auth}
-use Rattle.core_terms.specs.Typing.{same_type}
 use Rattle.core_terms.specs.ProgramTrees.{types_at}
 use Rattle.core_terms.specs.TypeTables.{type_at}
 use Rattle.core_terms.specs.declared.types.TyId.{TyId}
-use Rattle.core_terms.proofs.TypingSound.{same_sound}
+use Rattle.core_terms.proofs.SameTypes.{same_sound}
 use Rattle.core_terms.proofs.TypingComplete.{same_self}
 use Rattle.auth_syntax.specs.Syntax.{FunctionSyntax, InitSyntax, ParameterSyntax, QuerySyntax, UpdateSyntax, place_of_type}
 use Rattle.auth_syntax.specs.Trees as written

@@ -1,9 +1,8 @@
 -- The third pass: each role has the shape of its kind, and no `auth` stands in its argument.
 use Rattle.std.specs.Prelude.{ℕ, Bool, false, not, ◌&&◌, List, [], ◌∷◌}
-use Rattle.core_terms.specs.Types.{Ty, PairTy, Table}
+use Rattle.core_terms.specs.Types.{Ty, PairTy, Table, same_type}
 use Rattle.core_terms.specs.declared.format.Format.{Format}
 use Rattle.core_terms.specs.Terms.{Kind, Inner, Init, Query, Update}
-use Rattle.core_terms.specs.Typing.{same_type}
 use Rattle.core_terms.specs.Roles.{has_auth}
 use Rattle.auth_syntax.specs.Syntax.{TypeSyntax, place_of_type, ParameterSyntax, KindSyntax, InnerSyntax, InitSyntax, QuerySyntax, UpdateSyntax, FunctionSyntax}
 use Rattle.declared_types.specs.Checking.{Checking, Sound, FaultAt, then_checked, unless_fault}

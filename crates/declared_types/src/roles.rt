@@ -4,7 +4,7 @@ ghost use Rattle.core_terms.specs.AuthMarks.{AreAuthMarks};
 ghost use Rattle.core_terms.specs.Programs.{types_in};
 ghost use Rattle.core_terms.specs.ProgramTrees.{table_of};
 ghost use Rattle.core_terms.specs.TypeTables.{type_at};
-ghost use Rattle.core_terms.specs.Typing.{same_type};
+ghost use Rattle.core_terms.specs.Types.{same_type};
 ghost use Rattle.core_terms.specs.declared.format.Format.{Format};
 ghost use Rattle.auth_syntax.specs.Syntax.{InitSyntax, QuerySyntax, UpdateSyntax};
 ghost use Rattle.auth_syntax.specs.Trees as written;

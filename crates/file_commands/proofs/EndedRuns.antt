@@ -1,5 +1,5 @@
 -- What stands for the arguments of a role that is run, and what is gone on with.
-use Rattle.std.proofs.Common.{◌≡◌, ℕ, List, [], ◌∷◌, Option, sym, ap, ◌∙◌, subst}
+use Rattle.std.proofs.Common.{◌≡◌, ℕ, List, [], ◌∷◌, Option, Result, Err, sym, ap, ◌∙◌, subst}
 use Rattle.core_terms.specs.Programs.{meaning, types_of}
 use Rattle.core_terms.specs.RoleViews.{role_kind_of}
 use Rattle.core_terms.specs.Terms.{function_at}
@@ -9,14 +9,19 @@ use Rattle.core_terms.specs.declared.program.Program.{Program}
 use Rattle.value_store.specs.Nodes.{Node}
 use Rattle.value_store.specs.Standing.{AllStandFor, StandsFor}
 use Rattle.value_store.specs.Stores.{nodes_in}
+use Rattle.printed_lines.specs.declared.refusal.Refusal.TheVariants as refusal
 use Rattle.file_commands.specs.Answer.{Answer, with_literal, with_passed}
 use Rattle.file_commands.specs.CallsInStores.{HoldsCall}
+use Rattle.file_commands.specs.Halting.{GoesOnFor, HaltsAs, InHand}
 use Rattle.file_commands.specs.IdealCalls as meant
 use Rattle.file_commands.specs.IdealCalls.{values_called}
 use Rattle.file_commands.specs.ReadPrograms.{named_of}
-use Rattle.file_commands.specs.RoleCalls.{named_literal}
-use Rattle.file_commands.specs.RolesCalled.{CallsOnStates, IsCalled, prover_nodes, role_of}
+use Rattle.file_commands.specs.RoleCalls.{EndedRole, ended_with, named_literal}
+use Rattle.file_commands.specs.RolesCalled.{CallsOnStates, IsCalled, IsEnded, prover_nodes, role_of}
 use Rattle.file_commands.specs.declared.ideal_calls.IdealCall.{IdealCall}
+use Rattle.file_commands.specs.declared.machine_calls.Ended.{Ended}
+use Rattle.file_commands.specs.declared.report.Halt.{Halt}
+use Rattle.file_commands.specs.declared.report.Halt.TheVariants.{Usage, Refused, ReadFault, NoMemory}
 use Rattle.file_commands.specs.declared.roles.CalledRole.{CalledRole}
 use Rattle.file_commands.specs.declared.roles.Callee.{Callee}
 use Rattle.file_commands.specs.declared.roles.Callee.TheVariants.{Init}
@@ -49,3 +54,26 @@ init_stands p called is text nodes r put =
     let kind = role_kind_of called.kind in
     subst (λ ts. AllStandFor (prover_nodes p) (meaning p).types nodes (r ∷ []) ts (AndV put.0 NoV))
     (sym (init_takes (meaning p) called.function.0 kind (type_at (types_of p) called.argument) is.answer is.shape (init_alone kind is.called))) (put.2, tt)
+
+-- what halts the reading of the argument halts an init
+pub init_halts : (p : Program) (called : CalledRole) → IsCalled Init p called → (text : List ℕ) {T : Type 0} (Stands : T → Value → Type 0) (halt : Halt) (result : Result Ended Halt) → result ≡ Err halt
+    → InHand (GoesOnFor (with_literal (named_literal (named_of p) (type_at (types_of p) called.argument) text)) Stands) (Err halt)
+    → InHand (GoesOnFor (λ go. with_passed (role_of p called) text (λ a. go (ended_with (role_of p called) (AndV a NoV)))) (IsEnded Init p)) result
+init_halts p called is text {T} Stands halt result same halts = subst (InHand (GoesOnFor step (IsEnded Init p))) (sym same) (by halt halts)
+  where
+    step : (EndedRole → Option Answer) → Option Answer
+    step go = with_passed (role_of p called) text (λ a. go (ended_with (role_of p called) (AndV a NoV)))
+
+    passes : (halt : Halt) → ((go : Value → Option Answer) → HaltsAs (with_literal (named_literal (named_of p) (type_at (types_of p) called.argument) text) go) halt) → (go : EndedRole → Option Answer)
+        → HaltsAs (step go) halt
+    passes halt halts go =
+        subst (λ t. HaltsAs (with_literal (named_literal (named_of p) t text) (λ a. go (ended_with (role_of p called) (AndV a NoV)))) halt) (sym (passed_is Init p called is))
+        (halts (λ a. go (ended_with (role_of p called) (AndV a NoV))))
+
+    by : (halt : Halt) → InHand (GoesOnFor (with_literal (named_literal (named_of p) (type_at (types_of p) called.argument) text)) Stands) (Err halt) → InHand (GoesOnFor step (IsEnded Init p)) (Err halt)
+    by Usage halts = absurd halts
+    by (Refused (refusal.Program kind line column)) halts = passes (Refused (refusal.Program kind line column)) halts
+    by (Refused (refusal.Input fault)) halts = passes (Refused (refusal.Input fault)) halts
+    by (Refused (refusal.Proof cause)) halts = absurd halts
+    by ReadFault halts = absurd halts
+    by NoMemory halts = passes NoMemory halts

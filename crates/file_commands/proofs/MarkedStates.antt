@@ -32,7 +32,7 @@ projected p nodes t v r h = shown_shallow (digest_at sha256 (meaning p)) (meanin
 pub image_by_types : (p : Program) (types : Types) (digest : Digest) (bytes : List ℕ) → types ≡ p.types → digest ≡ p.text_digest
     → image_of (types_meaning types) digest.0 bytes ≡ image_of (meaning p) p.text_digest.0 bytes
 image_by_types p types digest bytes is same =
-    ap₂ (λ (t : Types) (d : Digest). image_of (types_meaning t) d.0 bytes) is same ∙ sym (images_alike p.types p.functions.items p.text_digest.0 bytes)
+    ap₂ (λ (t : Types) (d : Digest). image_of (types_meaning t) d.0 bytes) is same ∙ sym (images_alike p.types p.functions.items p.code p.text_digest.0 bytes)
 
 -- and one that is written
 pub saved_by_types : (p : Program) (types : Types) (digest : Digest) (v : Value) (result : Result (Vec ℕ Global) SaveFault) → types ≡ p.types → digest ≡ p.text_digest

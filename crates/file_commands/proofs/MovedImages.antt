@@ -8,6 +8,7 @@ use Rattle.std.proofs.lemmas.List.{drop-drop}
 use Rattle.std.proofs.lemmas.Slice.Eq.{bytes_eq-Decides}
 use Rattle.core_terms.specs.Formats.{Format, depth_limit}
 use Rattle.core_terms.specs.Terms.{Function, Program}
+use Rattle.core_terms.specs.Instructions.{Instruction}
 use Rattle.core_terms.specs.Types.{Ty, Table}
 use Rattle.core_terms.specs.Values.{Value, size, depth}
 use Rattle.images.specs.Images.{Entry, FaultyImage, Image, ImageFault, Loaded, Loading, Refused, Root, as_image, checked_entry, field_count, headed, image_of, load_records, stands_for, with_record, within_limits}
@@ -43,9 +44,9 @@ module _ (found : Record) (rest : List ℕ) where
 
 -- ---- what is loaded by the one is loaded by the other
 
-module _ (P : Program) (format : Format) (functions : List Function) (limit : P.format.limit ≤ format.limit) (arrays : P.format.arrays ≡ false) where
+module _ (P : Program) (format : Format) (functions : List Function) (code : Option (List (List Instruction))) (limit : P.format.limit ≤ format.limit) (arrays : P.format.arrays ≡ false) where
   abbrev Q : Program
-  Q = record { format = format; types = P.types; state = P.state; functions = functions }
+  Q = record { format = format; types = P.types; state = P.state; functions = functions; code = code }
 
   module _ (file_size other_size : ℕ) (entries : List Entry) (rest : List ℕ) where
     abbrev IsLoaded : Loading → Type 0
@@ -143,15 +144,15 @@ headed_by magic digest bytes four =
 
 -- ---- the image
 
-module _ (P : Program) (format : Format) (functions : List Function) (limit : P.format.limit ≤ format.limit) (arrays : P.format.arrays ≡ false) (four : length format.image_magic ≡ 4) where
+module _ (P : Program) (format : Format) (functions : List Function) (code : Option (List (List Instruction))) (limit : P.format.limit ≤ format.limit) (arrays : P.format.arrays ≡ false) (four : length format.image_magic ≡ 4) where
   with_types : (digest other bytes : List ℕ) (v : Value) → length other ≡ 32 → image_of P digest bytes ≡ Root v
-      → image_of (Q P format functions limit arrays) other (format.image_magic ++ other ++ drop 36 bytes) ≡ Root v
+      → image_of (Q P format functions code limit arrays) other (format.image_magic ++ other ++ drop 36 bytes) ≡ Root v
   with_types digest other bytes v long is =
       let moved = format.image_magic ++ other ++ drop 36 bytes in
       let said = behind_header v P.format.image_magic digest bytes (λ count records. as_image P.state (load_records P (length bytes) count [] records)) is in
       let count = from_be_bytes w32 (take 4 (drop 36 bytes)) in
-      other_header format.image_magic other bytes (λ count records. as_image P.state (load_records (Q P format functions limit arrays) (length moved) count [] records)) four long said.0
-      ∙ rooted_too P format functions limit arrays (length bytes) (length moved) count (drop 40 bytes) v said.1
+      other_header format.image_magic other bytes (λ count records. as_image P.state (load_records (Q P format functions code limit arrays) (length moved) count [] records)) four long said.0
+      ∙ rooted_too P format functions code limit arrays (length bytes) (length moved) count (drop 40 bytes) v said.1
 
 -- an image is long enough to have another header
 pub has_header : (P : Program) (digest bytes : List ℕ) (v : Value) → image_of P digest bytes ≡ Root v → 36 ≤ length bytes
@@ -163,6 +164,6 @@ has_header P digest bytes v is =
 pub moved_image : (P Q : Program) → KeepsStates P Q → length Q.format.image_magic ≡ 4 → (digest other bytes : List ℕ) (v : Value) → length other ≡ 32
     → image_of P digest bytes ≡ Root v → image_of Q other (Q.format.image_magic ++ other ++ drop 36 bytes) ≡ Root v
 moved_image P Q keeps four digest other bytes v long is =
-    let of : Table → Ty → Program = λ types state. record { format = Q.format; types = types; state = state; functions = Q.functions } in
+    let of : Table → Ty → Program = λ types state. record { format = Q.format; types = types; state = state; functions = Q.functions; code = Q.code } in
     subst (λ (R : Program). image_of R other (R.format.image_magic ++ other ++ drop 36 bytes) ≡ Root v) (sym (ap₂ of keeps.types keeps.state))
-    (with_types P Q.format Q.functions keeps.limit keeps.arrays four digest other bytes v long is)
+    (with_types P Q.format Q.functions Q.code keeps.limit keeps.arrays four digest other bytes v long is)

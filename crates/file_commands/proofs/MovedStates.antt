@@ -5,13 +5,13 @@ use Rattle.std.proofs.lemmas.Slice.Eq.{bytes_eq-Decides}
 use Rattle.core_terms.specs.ProgramFormats.{arrays_of, limit_of}
 use Rattle.core_terms.specs.ProgramTypes.{text_of}
 use Rattle.core_terms.specs.Programs.{meaning}
-use Rattle.core_terms.specs.Typing.{same_type}
+use Rattle.core_terms.specs.Types.{same_type}
 use Rattle.core_terms.specs.Values.{Value}
 use Rattle.core_terms.specs.declared.format.Format.{Format}
 use Rattle.core_terms.specs.declared.format.Format.TheVariants.{First, Second}
 use Rattle.core_terms.specs.declared.program.Program.{Program}
 use Rattle.core_terms.proofs.CodePrograms.{is_format}
-use Rattle.core_terms.proofs.TypingSound.{same_sound}
+use Rattle.core_terms.proofs.SameTypes.{same_sound}
 use Rattle.images.specs.Images.{Image, Root, image_of}
 use Rattle.images.specs.Images as images
 use Rattle.lam_outside.specs.Told.{Contents}

@@ -7,14 +7,13 @@ use Rattle.command_words.specs.declared.command.Command.TheVariants.{Check, Init
 use Rattle.ads_library.specs.Texts.{library_text}
 use Rattle.lam_outside.specs.Told.{Contents, Stores}
 use Rattle.core_terms.specs.ProgramFormats.{most_kept_pieces}
-use Rattle.core_terms.specs.Types.{Ty, IntTy, PairTy}
+use Rattle.core_terms.specs.Types.{Ty, IntTy, PairTy, same_type}
 use Rattle.core_terms.specs.Values.{Value, NoV, AndV}
 use Rattle.core_terms.specs.Reading.{Read, Good, BadAt}
 use Rattle.core_terms.specs.Terms.{Kind, Query, Update, Program, function_at}
 use Rattle.core_terms.specs.Roles.{role_named, argument_type}
 use Rattle.core_terms.specs.Spelling.{spelling}
 use Rattle.core_terms.specs.Projection.{projection, read_at}
-use Rattle.core_terms.specs.Typing.{same_type}
 use Rattle.printed_syntax.specs.Literals.{Literal, IsValue, FirstFault}
 use Rattle.printed_syntax.specs.declared.fault.LiteralKind.TheVariants.{Mismatch}
 use Rattle.ideal_meaning.specs.Ideal as ideal

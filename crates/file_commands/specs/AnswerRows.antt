@@ -150,7 +150,7 @@ sources text go = (refl, refl)
 -- a program of this format, with this type of state and these type declarations
 abbrev pub declaring : formats.Format → Ty → List ℕ → DeclaredProgram
 declaring format state types_text = record {
-  named = record { digested = record { program = record { format = format; types = []; state = state; functions = [] }; digest = [] }; names = λ number. [] };
+  named = record { digested = record { program = record { format = format; types = []; state = state; functions = []; code = None }; digest = [] }; names = λ number. [] };
   types_text = types_text;
 }
 

@@ -6,7 +6,7 @@ ghost use Rattle.command_words.specs.declared.command.Command.TheVariants.{Migra
 ghost use Rattle.core_terms.specs.Programs.{meaning, types_of};
 ghost use Rattle.core_terms.specs.Terms as tree;
 ghost use Rattle.core_terms.specs.TypeTables.{type_at};
-ghost use Rattle.core_terms.specs.Typing.{same_type};
+ghost use Rattle.core_terms.specs.Types.{same_type};
 ghost use Rattle.core_terms.specs.Values.{Value};
 ghost use Rattle.images.specs.Images.{Root, image_of};
 ghost use Rattle.file_commands.specs.Answer.{answer_with, migrated_answer, migration_fault, moved_answer};

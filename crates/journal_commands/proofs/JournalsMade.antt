@@ -1,5 +1,5 @@
 -- The journal that is made in the file of a name, and what ended the work early.
-use Rattle.std.proofs.Common.{◌≡◌, List, [], ℕ, Option, Some, Result, Ok, Err, OnOk, inl, sym, ap, ◌∙◌, subst}
+use Rattle.std.proofs.Common.{◌≡◌, List, [], ℕ, Option, Some, Result, Ok, Err, OnOk, inl, sym, ap, ◌∙◌, subst, None}
 use Rattle.core_terms.specs.ProgramFormats.{format_with}
 use Rattle.core_terms.specs.Types.{UnitTy}
 use Rattle.core_terms.specs.declared.format.Format.TheVariants.{First}
@@ -42,7 +42,7 @@ on_ok (Err e) X x = tt
 
 -- a journal that was not made, of whatever program
 abbrev no_founding : Founding
-no_founding = founding_of (record { program = record { format = format_with First []; types = []; state = UnitTy; functions = [] }; digest = [] }) []
+no_founding = founding_of (record { program = record { format = format_with First []; types = []; state = UnitTy; functions = []; code = None }; digest = [] }) []
 
 module _ (Means : Founding → Type 0) (name : List ℕ) (disk disk' : DiskSeen) (result : Result (Unit {0}) DiskStop) where
   pub unchosen : (halt : Halt) → result ≡ Err (Halts halt) → disk'.moments ≡ disk.moments → (f : Founding) × OnOk result (Means f) × LeavesOn f name disk disk' result

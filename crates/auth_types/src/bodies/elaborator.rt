@@ -66,8 +66,7 @@ impl<'s, 'a> Elaborator<'s, 'a> {
     ghost use Rattle.core_terms.specs.TypeTables.{is_form_in, stands_behind, type_of_form, type_at};
     ghost use Rattle.core_terms.specs.Texts.{bytes_of};
     ghost use Rattle.core_terms.specs.Terms.{TextE};
-    ghost use Rattle.core_terms.specs.Types.{TextTy, UnitTy};
-    ghost use Rattle.core_terms.specs.Typing.{same_type};
+    ghost use Rattle.core_terms.specs.Types.{TextTy, UnitTy, same_type};
     ghost use Rattle.auth_syntax.specs.Syntax.{LocalSyntax};
     ghost use Rattle.auth_types.specs.Bodies as specified;
     ghost use Rattle.auth_types.specs.Bodies.{most_locals, typed, wanted, wanted_arm};

@@ -2,7 +2,6 @@ use Rattle.std.proofs.Common.{None, Err, ap, sym, subst, ◌∙◌}
 use Rattle.std.proofs.lemmas.Result.{err_from_is_err_and}
 use Rattle.code_gen.specs.Programs.{program_in}
 use Rattle.file_commands.specs.Answer.{Asking, unasked_answer, with_asked, with_program_file}
-use Rattle.auth_cli.specs.Asking.{IsOfTexts}
 use Rattle.auth_cli.specs.PreparedClients.{FitProgram, TellsPort, asked_by}
 use Rattle.file_commands.specs.ReadPrograms.{named_of}
 use Rattle.file_commands.specs.Reaching.{without}
@@ -10,6 +9,7 @@ use Rattle.auth_cli.specs.declared.asking.AskInputs.{AskInputs}
 use Rattle.file_commands.proofs.Reached.{faults_reached, is_missing}
 use Rattle.file_commands.proofs.RoleSteps.{program_reached}
 use Rattle.file_commands.proofs.Steps.{halts_behind, halts_first}
+use Rattle.auth_cli.proofs.AskReading.{asked_of_texts}
 use Rattle.auth_cli.proofs.asking.read_asking.Goals as goal
 
 pub returns-in_err-code-clause-goes : goal.returns-in_err-code-clause-goes
@@ -44,8 +44,7 @@ returns-in-Ok-clause-port g c =
 
 pub returns-in-Ok-clause-of_texts : goal.returns-in-Ok-clause-of_texts
 returns-in-Ok-clause-of_texts g c =
-    let script = rw c.program.ensures at c.in-Ok.ensures.script in
-    subst IsOfTexts (sym c.prepare.ensures.asks) (record { program = c.in_ok-code.ensures.text; script = script })
+    asked_of_texts c.program.result.now (program_in c.in_ok-code.code) c.in-Ok.inputs (asked_by c.prepare.result) c.program.ensures c.in-Ok.ensures.script c.in_ok-code.ensures.text c.prepare.ensures.asks
 
 pub returns-in-Err-clause-goes : goal.returns-in-Err-clause-goes
 returns-in-Err-clause-goes g c = λ told known go.
