@@ -1,11 +1,13 @@
 //! Tests that tie the prover, the verifier and the audit of programs together: at SHA-256 what is proved is accepted and agreed with,
-//! and what is altered is told alike; at a digest for tests collisions are shown. And tests of both digests.
+//! and what is altered is told alike; at a digest for tests collisions are shown. And tests of both digests, and of compiled code.
 #![tactic(auto)]
 
 #[cfg(test)]
 mod altered;
 #[cfg(test)]
 mod collisions;
+#[cfg(test)]
+mod compiled;
 #[cfg(test)]
 mod digests;
 #[cfg(test)]

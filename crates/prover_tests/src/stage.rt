@@ -1,5 +1,5 @@
 // The program of the tests, and its calls: proved, verified and audited.
-ghost use Rattle.std.specs.Prelude.{◌≡◌, ◌<◌, ◌∷◌, [], length, IfOk, IfSome, IsTrue, OnOk};
+ghost use Rattle.std.specs.Prelude.{◌≡◌, ◌<◌, ◌≤◌, ◌∷◌, [], length, IfOk, IfSome, IsTrue, OnOk};
 ghost use Rattle.core_terms.specs.Formats.{Hash};
 ghost use Rattle.core_terms.specs.Programs.{meaning};
 ghost use Rattle.core_terms.specs.Terms.{function_at};
@@ -70,7 +70,14 @@ pub struct PutCall {
 
 /// The code of the program.
 pub fn code(alloc: Global) -> Result<Box<Code>, AllocError> {
-    let Ok(ast) = parse(alloc, TEXT) else {
+    code_of_text(alloc, TEXT)
+}
+
+/// The code of the program with this text.
+pub fn code_of_text(alloc: Global, text: &[u8]) -> Result<Box<Code>, AllocError>
+    requires { length text.now ≤ 262144 }
+{
+    let Ok(ast) = parse(alloc, text) else {
         return Err(AllocError);
     };
     let Ok(program) = check(alloc, ast, Digest([7; 32])) else {
@@ -182,18 +189,24 @@ pub fn verdict<H: Hash32>(
     call: Call,
     proof: &mut MemLink,
 ) -> Result<Result<Outcome<Spelling>, Verdict>, AllocError> {
+    let state = call.state.to_be_bytes();
+    let argument = call.argument.to_be_bytes();
+    verdict_of_bytes::<H>(alloc, code, call, (&state, &argument), proof)
+}
+
+/// The verdict on a call, whose state and argument are these bytes in the place of its own.
+pub fn verdict_of_bytes<H: Hash32>(
+    alloc: Global,
+    code: &Code,
+    call: Call,
+    (state, argument): (&[u8], &[u8]),
+    proof: &mut MemLink,
+) -> Result<Result<Outcome<Spelling>, Verdict>, AllocError> {
     let Some(role) = reading(code.program(), call.role) else {
         return Err(AllocError);
     };
-    Ok(verify::<H, MemLink>(
-        alloc,
-        code,
-        role,
-        &call.state.to_be_bytes(),
-        &call.argument.to_be_bytes(),
-        call.fuel.min(5000),
-        proof,
-    ))
+    let fuel = call.fuel.min(5000);
+    Ok(verify::<H, MemLink>(alloc, code, role, state, argument, fuel, proof))
 }
 
 /// The verdict on a call by frames without a header, with a ring.

@@ -2,6 +2,7 @@
 //! format.
 #![tactic(auto)]
 
+pub mod compiled;
 pub mod flat;
 pub mod judge;
 pub mod parts;
