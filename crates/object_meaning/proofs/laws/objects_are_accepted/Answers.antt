@@ -1,0 +1,6 @@
+use Rattle.object_meaning.proofs.ObjectPrograms.{objects_are_sound}
+use Rattle.object_meaning.proofs.ReadThere.{objects_are_accepted}
+use Rattle.object_meaning.proofs.laws.objects_are_accepted.Goals as goal
+
+pub returns : goal.returns
+returns c = record { code = objects_are_accepted; program = objects_are_sound }

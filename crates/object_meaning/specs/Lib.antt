@@ -1,0 +1,13 @@
+pub mod Objects
+pub mod ObjectBytes
+pub mod Readers
+pub mod ReadObjects
+pub mod ObjectBodies
+pub mod Accepting
+pub mod WellFormedObjects
+pub mod WrittenObjects
+pub mod KindLaws
+pub mod ClosedPrograms
+pub mod EmittablePrograms
+pub mod ObjectLaws
+pub mod ObjectRows
