@@ -9,7 +9,7 @@ use Rattle.core_terms.specs.Terms.{Expression, Function}
 use Rattle.core_terms.specs.TypeNames as code
 use Rattle.core_terms.specs.TypeNames.{AreNamed, all_constructor_names}
 use Rattle.core_terms.specs.declared.term.NamedType.{NamedType}
-use Rattle.core_terms.specs.ProgramLimits.{IsFlatType, IsFunctionWithin, expressions_in_all, levels_of_type, locals_in, most_parameters}
+use Rattle.core_terms.specs.ProgramLimits.{IsBodyWithin, IsFlatType, IsFunctionWithin, expressions_in_all, levels_of_type, locals_in, most_parameters}
 use Rattle.auth_syntax.specs.Grammar.{expression_levels, nesting_limit, type_levels}
 use Rattle.auth_syntax.specs.Syntax.{AuthTypeSyntax, BoolTypeSyntax, ConstructorDeclaration, DeclarationSyntax, ExpSyntax, FunctionDeclaration, FunctionSyntax, IntTypeSyntax, NamedTypeSyntax, PairTypeSyntax, VecTypeSyntax, ParameterSyntax, StateDeclaration, TextTypeSyntax, TypeDeclaration, TypeSyntax, UnitTypeSyntax, place_of}
 use Rattle.auth_syntax.specs.TreeLimits as written
@@ -210,28 +210,43 @@ module _ (names : List (List ℕ)) (scope : Scope) where
   may_pass : (fs : List FunctionSyntax) → All IsWithin fs → All FewParameters fs → All MayPass fs
   may_pass fs within few = λ k d inside. record { within = within k d inside; few = few k d inside }
 
-  function_within : (f : FunctionSyntax) → MayPass f → Gives (IsFunctionWithin scope.table) (checked_function names scope f)
+  -- within the limits, with its body
+  record IsWithinWhole (g : Function) : Type 0 where
+    function : IsFunctionWithin g
+    body : IsBodyWithin scope.table g
+
+  function_within : (f : FunctionSyntax) → MayPass f → Gives IsWithinWhole (checked_function names scope f)
   function_within f may =
-      gives_then (IsBodySized f) (IsFunctionWithin scope.table) (of_its_type names scope f) _ (body_sized f)
+      gives_then (IsBodySized f) IsWithinWhole (of_its_type names scope f) _ (body_sized f)
       (λ x sized.
       let count = length-map f.parameters (λ (p : ParameterSyntax). type_meant scope.format names p.of_type) in
       let locals : length (parameters_of f) ≡ length f.parameters =
       length-map f.parameters (λ (p : ParameterSyntax). record { name = p.name.name; of_type = type_meant scope.format names p.of_type }) in
       let few : length f.parameters ≤ most_parameters = may.few in
       record {
-        name = may.within.name;
-        parameters = omega (arith, few, count);
-        parameter_types = flat_parameters scope.format names f.parameters may.within.parameters;
-        result_type = is_flat scope.format names f.result_type may.within.result;
-        locals = subst (λ n. locals_in scope.table n x ≤ most_locals) (omega (arith, locals, count)) (sized.room (omega (arith, few, locals)));
-        levels = omega (arith, sized.flat, may.within.body);
+        function = record { name = may.within.name; parameters = omega (arith, few, count) };
+        body = record {
+          parameter_types = flat_parameters scope.format names f.parameters may.within.parameters;
+          result_type = is_flat scope.format names f.result_type may.within.result;
+          locals = subst (λ n. locals_in scope.table n x ≤ most_locals) (omega (arith, locals, count)) (sized.room (omega (arith, few, locals)));
+          levels = omega (arith, sized.flat, may.within.body);
+        };
       })
 
-  pub each_within : (ds : List DeclarationSyntax) → written.IsWithinLimits ds → All FewParameters (functions_in ds)
-      → Gives (All (IsFunctionWithin scope.table)) (checked_functions names scope (functions_in ds))
+  -- each function is, and its body
+  pub record FunctionsAreWithin (gs : List Function) : Type 0 where
+    pub functions : All IsFunctionWithin gs
+    pub bodies : All (IsBodyWithin scope.table) gs
+
+  pub each_within : (ds : List DeclarationSyntax) → written.IsWithinLimits ds → All FewParameters (functions_in ds) → Gives FunctionsAreWithin (checked_functions names scope (functions_in ds))
   each_within ds limits few =
-      each_made names scope MayPass (IsFunctionWithin scope.table) function_within (All (IsFunctionWithin scope.table)) (All-nil (IsFunctionWithin scope.table))
-      (λ g gs here others. All-cons (IsFunctionWithin scope.table) g gs here others) (functions_in ds)
+      each_made names scope MayPass IsWithinWhole function_within FunctionsAreWithin
+      (record { functions = All-nil IsFunctionWithin; bodies = All-nil (IsBodyWithin scope.table) })
+      (λ g gs here others. record {
+        functions = All-cons IsFunctionWithin g gs here.function others.functions;
+        bodies = All-cons (IsBodyWithin scope.table) g gs here.body others.bodies;
+      })
+      (functions_in ds)
       (may_pass (functions_in ds) (functions_within ds limits.names limits.types limits.bodies) few)
 
   -- how many expressions

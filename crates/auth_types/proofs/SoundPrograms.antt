@@ -9,7 +9,7 @@ use Rattle.core_terms.specs.Types.{Table}
 use Rattle.core_terms.specs.declared.format.Format.{Format}
 use Rattle.core_terms.specs.Terms.{Function}
 use Rattle.core_terms.specs.Terms as tree
-use Rattle.core_terms.specs.ProgramLimits.{IsFlatType, IsFunctionWithin, expressions_in_all}
+use Rattle.core_terms.specs.ProgramLimits.{IsBodyWithin, IsFlatType, IsShort, expressions_in_all}
 use Rattle.core_terms.specs.Typing.{all_shaped, all_typed, is_typed_as}
 use Rattle.auth_syntax.specs.Syntax.{ConstructorDeclaration, DeclarationSyntax, FunctionDeclaration, FunctionSyntax, ParameterSyntax, Program, StateDeclaration, TypeDeclaration}
 use Rattle.declared_types.specs.Checking.{Checking, FaultAt, Sound, is_among, then_checked}
@@ -23,7 +23,7 @@ use Rattle.declared_types.specs.declared.fault.TypeKind.TheVariants.{NoState}
 use Rattle.declared_types.proofs.SoundSteps.{Gives, given, gives_then, gives_unless, then_sound}
 use Rattle.auth_types.proofs.SoundLiterals.{parsed_has_good_literals}
 use Rattle.declared_types.proofs.SoundNames.{AsMany}
-use Rattle.auth_types.proofs.LimitsOfPrograms.{each_within, expressions_counted, expressions_written, few_expressions, flat_state, flat_table}
+use Rattle.auth_types.proofs.LimitsOfPrograms.{FunctionsAreWithin, each_within, expressions_counted, expressions_written, few_expressions, flat_state, flat_table}
 use Rattle.auth_types.proofs.SoundFunctions.{HasShape, functions_shaped, functions_typed, roles_shaped, signatures_kept}
 use Rattle.declared_types.proofs.SoundLimits.{AreNew, AreWithin, FewParameters, declarations_within}
 use Rattle.auth_types.proofs.SoundTypes.{AreBelow, as_many_types, declarations_below, functions_below, state_below}
@@ -179,17 +179,21 @@ checked_is_within_all_limits program P limits sound =
     let table : table_of_program program ≡ P.types = ap (λ (P : tree.Program). P.types) is.made in
     let few : expressions_in_all P.functions ≤ expressions_written (functions_in ds) =
     of_functions program P is (λ gs. expressions_in_all gs ≤ expressions_written (functions_in ds)) (few_expressions names (scope_of program) (functions_in ds)) in
+    let each : FunctionsAreWithin names (scope_of program) P.functions =
+    of_functions program P is (FunctionsAreWithin names (scope_of program)) (each_within names (scope_of program) ds limits (within program P is).parameters) in
     record {
       types = own.types;
       constructors = own.constructors;
       fields = own.fields;
-      field_types = subst (λ (t : Table). All (All (All IsFlatType)) t) table (flat_table (format_of program) names ds limits.types);
-      state_type = subst IsFlatType (ap (λ (P : tree.Program). P.state) is.made) (flat_state (format_of program) names ds limits.types);
       functions = own.functions;
-      each = subst (λ (t : Table). All (IsFunctionWithin t) P.functions) table
-          (of_functions program P is (All (IsFunctionWithin (table_of_program program)))
-          (each_within names (scope_of program) ds limits (within program P is).parameters));
-      expressions = omega (arith, few, expressions_counted ds, limits.expressions);
+      each = each.functions;
+      written = λ none. record {
+        field_types = subst (λ (t : Table). All (All (All IsFlatType)) t) table (flat_table (format_of program) names ds limits.types);
+        state_type = subst IsFlatType (ap (λ (P : tree.Program). P.state) is.made) (flat_state (format_of program) names ds limits.types);
+        bodies = subst (λ (t : Table). All (IsBodyWithin t) P.functions) table each.bodies;
+        expressions = omega (arith, few, expressions_counted ds, limits.expressions);
+      };
+      short = subst (λ (P : tree.Program). IsShort P.code) is.made (omega arith);
     }
 
 -- a function that is new is none of those before

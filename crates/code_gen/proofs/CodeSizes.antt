@@ -1,11 +1,11 @@
 -- Code has at most four instructions an expression. Two fewer in fact: those are for the end of an arm's fields, and for the jump behind it.
-use Rattle.std.proofs.Common.{ℕ, zero, suc, ◌+◌, ◌*◌, ◌≤◌, List, [], ◌∷◌, ◌++◌, length, map, slice_get, unwrap_or, Option, Some, None, arith, length-append}
+use Rattle.std.proofs.Common.{◌≡◌, refl, ℕ, zero, suc, ◌+◌, ◌*◌, ◌≤◌, List, [], ◌∷◌, ◌++◌, length, map, slice_get, unwrap_or, Option, Some, None, arith, length-append}
 use Rattle.core_terms.specs.Types.{Ty, Table}
 use Rattle.core_terms.specs.Terms.{Expression, UnitE, BoolE, IntE, TextE, LocalE, PairE, FstE, SndE, NotE, LenE, AuthE, UnauthE, ConE, ArithE, CompareE, TextCompareE, CatE, LetE, IfE, MatchE, CallE, OperateE, Expressions, NoE, AndE, Arms, NoArm, AndArm, Function, Program, coded}
 use Rattle.core_terms.specs.Programs.{meaning}
 use Rattle.core_terms.specs.Instructions.{Instruction, Fst, Snd, Not, Len, Auth, Unauth, Make, Call, Pair, ArithOp, CompareOp, TextCompareOp, Cat, Bind, Unbind, Branch, Jump, Switch, Return}
 use Rattle.code_gen.specs.Code.{behind, laid, places, match_code, if_code, unbind_code, operation_code, code_of, code_all, arm_codes, function_code, codes_as, generated}
-use Rattle.core_terms.specs.ProgramLimits.{expressions_in, expressions_in_row, expressions_in_arms, expressions_in_all, most_expressions, most_functions, instructions_in_all, most_instructions, IsShort}
+use Rattle.core_terms.specs.ProgramLimits.{expressions_in, expressions_in_row, expressions_in_arms, expressions_in_all, most_expressions, most_functions, instructions_in_all, most_instructions, IsShort, IsWithinLimits}
 use Rattle.code_gen.specs.CodeSizes.{code_size, CodeIsShort, CodeHasALimit}
 
 one : (c : List Instruction) (i : Instruction) (n : ℕ) → length c + 2 ≤ 4 * n → length (c ++ i ∷ []) + 2 ≤ 4 * suc n
@@ -116,13 +116,13 @@ own_code [] codes = omega arith
 own_code (g ∷ gs) [] = omega arith
 own_code (g ∷ gs) (c ∷ codes) = let h = own_code gs codes in omega (arith, h)
 
--- of a program within the limits, whose own code is short
-limited : (P : Program) → expressions_in_all P.functions ≤ most_expressions → length P.functions ≤ most_functions → IsShort P.code → code_size (generated P).functions ≤ most_instructions
-limited P expressions functions short = by P.code short
+-- of a program within the limits
+limited : (P : Program) → IsWithinLimits P → code_size (generated P).functions ≤ most_instructions
+limited P limits = by P.code refl limits.short
   where
-    by : (o : Option (List (List Instruction))) → IsShort o → code_size (codes_as P o) ≤ most_instructions
-    by None h = let short = code_is_short P in omega (arith, short, expressions, functions)
-    by (Some codes) h = let own = own_code P.functions codes in omega (arith, own, h)
+    by : (o : Option (List (List Instruction))) → P.code ≡ o → IsShort o → code_size (codes_as P o) ≤ most_instructions
+    by None is h = let short = code_is_short P in omega (arith, short, (limits.written is).expressions, limits.functions)
+    by (Some codes) is h = let own = own_code P.functions codes in omega (arith, own, h)
 
 pub code_has_a_limit : CodeHasALimit
-code_has_a_limit code = limited (meaning code.program) code.program.limits.expressions code.program.limits.functions code.program.short
+code_has_a_limit code = limited (meaning code.program) code.program.limits

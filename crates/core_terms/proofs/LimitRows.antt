@@ -1,12 +1,12 @@
 -- Which values are within limits: of what is authenticated, of each of some values, and in a program's format. Which formats and names are
 -- none, and what the limits of a program come to in numbers.
-use Rattle.std.proofs.Common.{ℕ, ◌≤◌, ◌<◌, [], ◌∷◌, length, true, arith, None, false}
+use Rattle.std.proofs.Common.{ℕ, ◌≤◌, ◌<◌, ◌≡◌, [], ◌∷◌, length, true, arith, None, false, unwrap_or}
 use Rattle.std.specs.Prelude.{All, pos, replicate}
 use Rattle.core_terms.specs.Types.{Table, BoolTy, IntTy, TextTy, PairTy, NamedTy, AuthTy}
 use Rattle.core_terms.specs.Formats.{Format, IsFormat, first_format}
 use Rattle.core_terms.specs.Names.{IsName}
 use Rattle.core_terms.specs.Terms.{Function, Program}
-use Rattle.core_terms.specs.ProgramLimits.{IsFunctionWithin, IsWithinLimits, expressions_in_all, levels_of, levels_of_type, locals_in}
+use Rattle.core_terms.specs.ProgramLimits.{IsBodyWithin, IsFunctionWithin, IsWithinLimits, expressions_in_all, instructions_in_all, levels_of, levels_of_type, locals_in}
 use Rattle.core_terms.specs.Values.{Value, BoolV, IntV, TextV, PairV, NoV, AndV, AreWithin, AuthWithin}
 use Rattle.core_terms.specs.Projection.{AllFit, Fits}
 use Rattle.core_terms.specs.FormatRows.{other_program}
@@ -80,13 +80,18 @@ sixty_five_are_no_name : IsName (replicate 65 0x61) → ⊥
 sixty_five_are_no_name h = let k : 65 ≤ 64 = h.1 in absurd (omega (arith, k))
 
 -- the limits of a function by itself, and of a program
-limits_of_a_function : (types : Table) (g : Function) → IsFunctionWithin types g
-    → (1 ≤ length g.name) × (length g.name ≤ 64) × (length g.parameters ≤ 8) × All (λ t. levels_of_type t ≤ 100) g.parameters
-    × (levels_of_type g.result ≤ 100) × (locals_in types (length g.parameters) g.body ≤ 255) × (levels_of g.body ≤ 100)
-limits_of_a_function types g h = (h.name.0, h.name.1, h.parameters, h.parameter_types, h.result_type, h.locals, h.levels)
+limits_of_a_function : (g : Function) → IsFunctionWithin g → (1 ≤ length g.name) × (length g.name ≤ 64) × (length g.parameters ≤ 8)
+limits_of_a_function g h = (h.name.0, h.name.1, h.parameters)
+
+limits_of_a_body : (types : Table) (g : Function) → IsBodyWithin types g
+    → All (λ t. levels_of_type t ≤ 100) g.parameters × (levels_of_type g.result ≤ 100) × (locals_in types (length g.parameters) g.body ≤ 255) × (levels_of g.body ≤ 100)
+limits_of_a_body types g h = (h.parameter_types, h.result_type, h.locals, h.levels)
 
 limits_of_a_program : (P : Program) → IsWithinLimits P
     → (length P.types ≤ 256) × All (λ constructors. length constructors ≤ 255) P.types × All (All (λ fields. length fields ≤ 8)) P.types
-    × All (All (All (λ t. levels_of_type t ≤ 100))) P.types × (levels_of_type P.state ≤ 100)
-    × (length P.functions ≤ 1024) × All (IsFunctionWithin P.types) P.functions × (expressions_in_all P.functions ≤ 262144)
-limits_of_a_program P h = (h.types, h.constructors, h.fields, h.field_types, h.state_type, h.functions, h.each, h.expressions)
+    × (length P.functions ≤ 1024) × All IsFunctionWithin P.functions × (instructions_in_all (unwrap_or P.code []) ≤ 4194304)
+limits_of_a_program P h = (h.types, h.constructors, h.fields, h.functions, h.each, h.short)
+
+limits_of_what_is_written : (P : Program) → IsWithinLimits P → P.code ≡ None
+    → All (All (All (λ t. levels_of_type t ≤ 100))) P.types × (levels_of_type P.state ≤ 100) × All (IsBodyWithin P.types) P.functions × (expressions_in_all P.functions ≤ 262144)
+limits_of_what_is_written P h is = let w = h.written is in (w.field_types, w.state_type, w.bodies, w.expressions)

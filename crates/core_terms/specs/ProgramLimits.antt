@@ -1,7 +1,7 @@
 -- The limits of a program: how many named types, constructors, fields, functions, parameters, locals and expressions it has, how
 -- long its names are, and how far its types and expressions are nested.
 use Rattle.core_terms.specs.Instructions.{Instruction}
-use Rattle.std.specs.Prelude.{Option, ℕ, suc, ◌+◌, ◌≤◌, max, List, [], ◌∷◌, length, slice_get, unwrap_or, All}
+use Rattle.std.specs.Prelude.{◌≡◌, Option, None, ℕ, suc, ◌+◌, ◌≤◌, max, List, [], ◌∷◌, length, slice_get, unwrap_or, All}
 pub use Rattle.core_terms.specs.Names.{IsName, longest_name}
 use Rattle.core_terms.specs.Types.{Ty, PairTy, AuthTy, VecTy, Table}
 use Rattle.core_terms.specs.Terms.{Expression, PairE, FstE, SndE, NotE, LenE, AuthE, UnauthE, ConE, ArithE, CompareE, TextCompareE, CatE, LetE, IfE, MatchE, CallE, OperateE, Expressions, NoE, AndE, Arms, NoArm, AndArm, Function, Program}
@@ -137,31 +137,6 @@ abbrev pub expressions_in_all : List Function → ℕ
 expressions_in_all [] = 0
 expressions_in_all (g ∷ gs) = expressions_in g.body + expressions_in_all gs
 
--- a type that is written, and a function by itself, are within the limits
-abbrev pub IsFlatType : Ty → Type 0
-IsFlatType t = levels_of_type t ≤ most_levels
-
-pub record IsFunctionWithin (types : Table) (g : Function) : Type 0 where
-  pub name : IsName g.name
-  pub parameters : length g.parameters ≤ most_parameters
-  pub parameter_types : All IsFlatType g.parameters
-  pub result_type : IsFlatType g.result
-  pub locals : locals_in types (length g.parameters) g.body ≤ most_locals
-  pub levels : levels_of g.body ≤ most_levels
-
--- A program is within the limits: it has at most 256 named types, of at most 255 constructors each, of at most 8 fields each, and
--- 1,024 functions, of at most 8 parameters each, with names of 1 to 64 bytes. At most 255 locals stand at a place. No type that
--- is written, and no body, has more than 100 levels, and there are at most 262,144 expressions in all.
-pub record IsWithinLimits (P : Program) : Type 0 where
-  pub types : length P.types ≤ most_types
-  pub constructors : All (λ constructors. length constructors ≤ most_constructors) P.types
-  pub fields : All (All (λ fields. length fields ≤ most_fields)) P.types
-  pub field_types : All (All (All IsFlatType)) P.types
-  pub state_type : IsFlatType P.state
-  pub functions : length P.functions ≤ most_functions
-  pub each : All (IsFunctionWithin P.types) P.functions
-  pub expressions : expressions_in_all P.functions ≤ most_expressions
-
 -- the number of instructions of functions, and how many there may be in all the code of a program
 abbrev pub instructions_in_all : List (List Instruction) → ℕ
 instructions_in_all [] = 0
@@ -172,3 +147,38 @@ most_instructions = 4194304
 
 abbrev pub IsShort : Option (List (List Instruction)) → Type 0
 IsShort code = instructions_in_all (unwrap_or code []) ≤ most_instructions
+
+-- a function by itself: its name has 1 to 64 bytes, and it has at most 8 parameters
+pub record IsFunctionWithin (g : Function) : Type 0 where
+  pub name : IsName g.name
+  pub parameters : length g.parameters ≤ most_parameters
+
+-- a type that is written, and a function with its body: no type and no body has more than 100 levels, and at most 255 locals stand at a
+-- place
+abbrev pub IsFlatType : Ty → Type 0
+IsFlatType t = levels_of_type t ≤ most_levels
+
+pub record IsBodyWithin (types : Table) (g : Function) : Type 0 where
+  pub parameter_types : All IsFlatType g.parameters
+  pub result_type : IsFlatType g.result
+  pub locals : locals_in types (length g.parameters) g.body ≤ most_locals
+  pub levels : levels_of g.body ≤ most_levels
+
+-- what is written of a program, in which there are at most 262,144 expressions
+pub record IsWrittenWithin (P : Program) : Type 0 where
+  pub field_types : All (All (All IsFlatType)) P.types
+  pub state_type : IsFlatType P.state
+  pub bodies : All (IsBodyWithin P.types) P.functions
+  pub expressions : expressions_in_all P.functions ≤ most_expressions
+
+-- A program is within the limits: it has at most 256 named types, of at most 255 constructors each, of at most 8 fields each, and 1,024
+-- functions. One that is written is within the limits of what is written; the types of a compiled one may have any number of levels, and
+-- its code at most 4,194,304 instructions.
+pub record IsWithinLimits (P : Program) : Type 0 where
+  pub types : length P.types ≤ most_types
+  pub constructors : All (λ constructors. length constructors ≤ most_constructors) P.types
+  pub fields : All (All (λ fields. length fields ≤ most_fields)) P.types
+  pub functions : length P.functions ≤ most_functions
+  pub each : All IsFunctionWithin P.functions
+  pub written : P.code ≡ None → IsWrittenWithin P
+  pub short : IsShort P.code

@@ -69,7 +69,8 @@ impl Fronts {
 fn fingerprints<H: Hash32>(types: &Types, alloc: Global) -> Result<Vec<Digest>, AllocError>
     ensures { IfOk result (λ prints. ArePrints H.hash types.now (length (types_by_number types.now)) prints.items) }
 {
-    let declared = H::of(types.text());
+    let text = types.text(alloc)?;
+    let declared = H::of(&text);
     let mut prints = Vec::new(alloc);
     for number in 0..types.type_count() {
         let print = form_print::<H>(types.form(TyId(number)), &prints, declared, alloc)?;

@@ -5,8 +5,8 @@ ghost use Rattle.std.proofs.Props.{props};
 ghost use Rattle.core_terms.specs.TypeNames.{AreNamed};
 ghost use Rattle.core_terms.specs.ProgramTrees.{function_of, has_fields_below, has_types_below, is_within, program_of, types_at};
 ghost use Rattle.core_terms.specs.TypeTables.{HasNoNumber, stands_behind, type_at, type_of_form};
-ghost use Rattle.core_terms.specs.InstructionViews.{codes_meant, instructions_of};
-ghost use Rattle.core_terms.specs.ProgramLimits.{IsShort, IsWithinLimits};
+ghost use Rattle.core_terms.specs.InstructionViews.{instructions_of};
+ghost use Rattle.core_terms.specs.ProgramLimits.{IsWithinLimits};
 ghost use Rattle.core_terms.specs.ProgramParts.{compiled_program, program_of_parts};
 ghost use Rattle.core_terms.specs.ProgramTypes.{types_by_number};
 ghost use Rattle.core_terms.specs.RoleViews.{has_role_below, role_of};
@@ -40,7 +40,6 @@ pub struct Program {
     ghost shaped: { is_shaped (program_of_parts types functions.items code) ≡ true },
     ghost limits: { IsWithinLimits (program_of_parts types functions.items code) } by { Prim.hlevel props },
     ghost within: { list_all (has_types_below (length (types_by_number types))) functions.items ≡ true },
-    ghost short: { IsShort (codes_meant (types_by_number types) code) } by { Prim.hlevel props },
     ghost roles_within: { list_all (has_role_below (length (types_by_number types))) roles.items ≡ true },
 }
 
@@ -101,7 +100,6 @@ impl Program {
         requires within { is_within types.forms.keys named.items state functions.items ≡ true }
         requires names { AreNamed named.items }
         requires limits { IsWithinLimits (compiled_program types named.items state functions.items code.items) }
-        requires short { IsShort (compiled_program types named.items state functions.items code.items).code }
         ensures meaning { IfOk result (λ program. meaning program ≡ compiled_program types named.items state functions.items code.items) }
         ensures named { IfOk result (λ program. program.types.named.items ≡ named.items) }
         ensures digest { IfOk result (λ program. program.text_digest ≡ digest) }
@@ -149,10 +147,14 @@ impl Program {
     }
 
     /// The declarations of the named types, printed, each on its line.
-    pub fn types_text(&self) -> &[u8]
-        ensures { result.now ≡ text_of self.now.types }
+    ///
+    /// # Errors
+    ///
+    /// `AllocError` where there is no memory for the text.
+    pub fn types_text(&self, alloc: Global) -> Result<Vec<u8>, AllocError>
+        ensures { IfOk result (λ text. text.items ≡ text_of self.now.types) }
     {
-        self.types.text()
+        self.types.text(alloc)
     }
 
     /// The number of types. Their numbers are those below it.

@@ -4,7 +4,7 @@ ghost use Rattle.std.specs.List.{list_all, position};
 ghost use Rattle.std.proofs.Props.{props};
 ghost use Rattle.core_terms.specs.AuthMarks.{AreAuthMarks};
 ghost use Rattle.core_terms.specs.TypeNames.{AreNamed};
-ghost use Rattle.core_terms.specs.ProgramTrees.{are_types_within, declared_text, has_fields_below, table_of, types_at};
+ghost use Rattle.core_terms.specs.ProgramTrees.{are_types_within, has_fields_below, table_of, types_at};
 ghost use Rattle.core_terms.specs.TypeTables.{HasNoNumber, stands_behind, type_at, type_of_form, types_of_forms};
 ghost use Rattle.core_terms.specs.Roles.{has_auth};
 ghost use Rattle.core_terms.specs.Types.{fields_at, has_numbers, has_tags};
@@ -14,17 +14,15 @@ use crate::type_texts::declared_text;
 use crate::{Constructor, Format, NamedId, NamedType, Tag, TyForm, TyId, TyTable};
 use std::alloc::{AllocError, Global};
 
-/// The types of a program: its format, the declarations of its named types as they are printed, a table of types by number, the named
-/// types, the type of its state, and which types an `auth` stands in. The types of its state and fields are in the table. There are at most 256 named types, of at most 255 constructors each, and
-/// the names of these have 1 to 64 bytes.
+/// The types of a program: its format, a table of types by number, the named types, the type of its state, and which types an `auth` stands
+/// in. The types of its state and fields are in the table. There are at most 256 named types, of at most 255 constructors each, and the
+/// names of these have 1 to 64 bytes.
 #[derive(Drop)]
 pub struct Types {
-    text: Vec<u8>,
     table: TyTable,
     named: Vec<NamedType>,
     state: TyId,
     auths: Vec<bool>,
-    ghost printed: { text.items ≡ declared_text (types_of_forms table.forms.keys) named.items },
     ghost marked: { AreAuthMarks (types_of_forms table.forms.keys) named.items auths.items },
     ghost within: { are_types_within (length (types_of_forms table.forms.keys)) named.items state ≡ true },
     ghost numbers: { has_numbers (table_of (types_of_forms table.forms.keys) named.items) ≡ true },
@@ -41,7 +39,7 @@ impl Types {
     ///
     /// # Errors
     ///
-    /// `AllocError` where there is no memory for the marks or for the printed declarations.
+    /// `AllocError` where there is no memory for the marks.
     pub fn new(
         table: TyTable,
         named: Vec<NamedType>,
@@ -57,9 +55,7 @@ impl Types {
         ensures state { IfOk result (λ types. types.state ≡ state) }
     {
         let auths = auth_marks(&table, &named, alloc)?;
-        let text = declared_text(&table, &named, alloc)?;
         Ok(Types {
-            text,
             table,
             named,
             state,
@@ -74,11 +70,16 @@ impl Types {
         self.table.format()
     }
 
-    /// The declarations of the named types, printed, each on its line.
-    pub fn text(&self) -> &[u8]
-        ensures { result.now ≡ text_of self.now }
+    /// The declarations of the named types, printed, each on its line. A type is written whole, as in the text of a program: so this is
+    /// linear in such a text, but not in a table in which types share their parts.
+    ///
+    /// # Errors
+    ///
+    /// `AllocError` where there is no memory for the text.
+    pub fn text(&self, alloc: Global) -> Result<Vec<u8>, AllocError>
+        ensures { IfOk result (λ text. text.items ≡ text_of self.now) }
     {
-        &self.text
+        declared_text(&self.table, &self.named, alloc)
     }
 
     /// The number of types. Their numbers are those below it.

@@ -28,7 +28,7 @@ use images::save_image;
 use lam_outside::{Files, Sink};
 use printed_lines::refusal::{Argument, InputFault, MigrationKind};
 use printed_types::laws::equal_texts_are_equal_tables;
-use std::alloc::Global;
+use std::alloc::{AllocError, Global};
 
 /// Stores the image of a state of one program as one of another, and tells its projection by that one. The words behind the command are
 /// `P IMG Q OUT`.
@@ -69,7 +69,8 @@ fn find_moved<F: Files>(
     equal_texts_are_equal_tables();
     let from = read_named_program(alloc, files, Argument::Program, program)?;
     let to = read_named_program(alloc, files, Argument::Other, other)?;
-    if let Some(kind) = migration_fault(&from, &to) {
+    let fault = migration_fault(alloc, &from, &to)?;
+    if let Some(kind) = fault {
         return Err(InputFault::Migration(kind).into());
     }
     let mut image = load_image_bytes(alloc, files, &from, image)?;
@@ -78,18 +79,23 @@ fn find_moved<F: Files>(
 
 /// Why no state of the one program is moved to the other, where it isn't.
 #[tactic(auto, unfolding(crate::specs::Answer::migration_fault))]
-fn migration_fault(from: &Program, to: &Program) -> Option<MigrationKind>
-    ensures { result ≡ migration_fault (declared_of from.now) (declared_of to.now) }
+fn migration_fault(
+    alloc: Global,
+    from: &Program,
+    to: &Program,
+) -> Result<Option<MigrationKind>, AllocError>
+    ensures { IfOk result (λ kind. kind ≡ migration_fault (declared_of from.now) (declared_of to.now)) }
 {
     if from.format() != Format::First || to.format() != Format::Second {
-        return Some(MigrationKind::Format);
+        return Ok(Some(MigrationKind::Format));
     }
-    if from.types_text() == to.types_text()
+    let declared = from.types_text(alloc)?;
+    if declared.as_slice() == to.types_text(alloc)?.as_slice()
         && is_same_type(from, from.state_type(), to, to.state_type())
     {
-        None
+        Ok(None)
     } else {
-        Some(MigrationKind::Types)
+        Ok(Some(MigrationKind::Types))
     }
 }
 

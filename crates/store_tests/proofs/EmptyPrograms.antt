@@ -6,7 +6,7 @@ use Rattle.core_terms.specs.Types.{Ty, UnitTy}
 use Rattle.core_terms.specs.TypeTables.{type_at, types_of_forms}
 use Rattle.core_terms.specs.TypeNames.{AreNamed}
 use Rattle.core_terms.specs.ProgramTrees.{program_of}
-use Rattle.core_terms.specs.ProgramLimits.{IsFlatType, IsFunctionWithin, IsName, IsWithinLimits, most_constructors, most_fields}
+use Rattle.core_terms.specs.ProgramLimits.{IsBodyWithin, IsFlatType, IsFunctionWithin, IsName, IsWithinLimits, most_constructors, most_fields}
 use Rattle.core_terms.specs.declared.format.Format.{Format}
 use Rattle.core_terms.specs.declared.types.TyId.{TyId}
 use Rattle.core_terms.specs.declared.types.TyForm.{TyForm}
@@ -30,11 +30,10 @@ none_limited format forms state flat = record {
   types = omega arith;
   constructors = All-nil (λ (constructors : List (List Ty)). length constructors ≤ most_constructors);
   fields = All-nil (All (λ (fields : List Ty). length fields ≤ most_fields));
-  field_types = All-nil (All (All IsFlatType));
-  state_type = flat;
   functions = omega arith;
-  each = All-nil (IsFunctionWithin []);
-  expressions = omega arith;
+  each = All-nil IsFunctionWithin;
+  written = λ is. record { field_types = All-nil (All (All IsFlatType)); state_type = flat; bodies = All-nil (IsBodyWithin []); expressions = omega arith };
+  short = omega arith;
 }
 
 pub is_limited : (format : Format) (forms : List TyForm) (named : List NamedType) (state : TyId) (functions : List Function) → named ≡ [] → functions ≡ []

@@ -1,11 +1,13 @@
 -- The compiled program means the one of the definitions.
-use Rattle.std.proofs.Common.{◌≡◌, ◌&&◌, ℕ, List, [], ◌∷◌, Some, Vec, true, nat_lt, length, sym, ap, ap₂, ◌∙◌, subst, arith, Global}
+use Rattle.std.proofs.Common.{◌≡◌, ◌≤◌, ◌&&◌, ℕ, List, [], ◌∷◌, Some, None, Vec, true, nat_lt, length, sym, ap, ap₂, ◌∙◌, subst, arith, Global}
+use Rattle.std.specs.Prelude.{All}
+use Rattle.std.proofs.lemmas.List.Elements.{All-nil, All-cons}
 use Rattle.core_terms.specs.Types.{Ty, IntTy}
 use Rattle.core_terms.specs.Instructions as meant
 use Rattle.core_terms.specs.Terms as tree
 use Rattle.core_terms.specs.InstructionViews.{instructions_of}
 use Rattle.core_terms.specs.ProgramFormats.{format_with}
-use Rattle.core_terms.specs.ProgramLimits.{IsShort}
+use Rattle.core_terms.specs.ProgramLimits.{IsFunctionWithin, IsName, IsWithinLimits, most_constructors, most_fields}
 use Rattle.core_terms.specs.ProgramParts.{compiled_program}
 use Rattle.core_terms.specs.ProgramTrees.{declared_text, function_of, has_types_below, is_within}
 use Rattle.core_terms.specs.Programs.{types_in}
@@ -37,8 +39,27 @@ module _ (types : TyTable) (int : TyId) (g : Function) (c : Vec Instruction Glob
   sum_typed named functions codes none one coded =
       ap (λ named. is_typed (compiled_program types named int functions codes)) none ∙ ap₂ (λ functions codes. is_typed (compiled_program types [] int functions codes)) one coded ∙ ap is_typed sum_meaning
 
-  pub sum_short : IsShort (compiled_program types [] int (g ∷ []) (c ∷ [])).code
-  sum_short = subst (λ (P : tree.Program). IsShort P.code) (sym sum_meaning) (omega arith)
+  coded_not_written : Some (sum_code ∷ []) ≡ None → ⊥
+  coded_not_written e = cc
+
+  sum_within_limits : IsName name → IsWithinLimits P
+  sum_within_limits is = record {
+    types = omega arith;
+    constructors = All-nil (λ (constructors : List (List Ty)). length constructors ≤ most_constructors);
+    fields = All-nil (λ (constructors : List (List Ty)). All (λ (fields : List Ty). length fields ≤ most_fields) constructors);
+    functions = omega arith;
+    each = All-cons IsFunctionWithin (sum_function name) [] (record { name = is; parameters = omega arith }) (All-nil IsFunctionWithin);
+    written = λ none. absurd (coded_not_written none);
+    short = omega arith;
+  }
+
+  pub sum_limits : IsName name → (named : List NamedType) (functions : List Function) (codes : List (Vec Instruction Global)) → named ≡ [] → functions ≡ g ∷ [] → codes ≡ c ∷ []
+      → IsWithinLimits (compiled_program types named int functions codes)
+  sum_limits is named functions codes none one coded =
+      subst (λ named. IsWithinLimits (compiled_program types named int functions codes)) (sym none)
+      (subst (λ functions. IsWithinLimits (compiled_program types [] int functions codes)) (sym one)
+      (subst (λ codes. IsWithinLimits (compiled_program types [] int (g ∷ []) codes)) (sym coded)
+      (subst IsWithinLimits (sym sum_meaning) (sum_within_limits is))))
 
   pub sum_within : has_types_below 1 g ≡ true → is_within types.forms.keys [] int (g ∷ []) ≡ true
   sum_within below =

@@ -6,7 +6,7 @@ use Rattle.std.proofs.lemmas.List.Elements.{All-head, All-more, All-tail, All-ma
 use Rattle.core_terms.specs.Types.{Ty}
 use Rattle.core_terms.specs.Terms.{Program}
 use Rattle.core_terms.specs.Typing.{all_shaped, all_typed, is_shaped, is_typed}
-use Rattle.core_terms.specs.ProgramLimits.{expressions_in, expressions_in_all, IsFlatType, IsFunctionWithin, IsName, IsWithinLimits, most_constructors, most_fields}
+use Rattle.core_terms.specs.ProgramLimits.{expressions_in, expressions_in_all, IsBodyWithin, IsFlatType, IsFunctionWithin, IsName, IsWithinLimits, most_constructors, most_fields}
 use Rattle.core_terms.specs.ProgramTrees.{are_below, expression_of, function_of, has_fields_below, has_types_below, is_within, table_of, types_at}
 use Rattle.core_terms.specs.Programs.{types_in}
 use Rattle.core_terms.specs.TypeNames.{AreNamed}
@@ -84,10 +84,11 @@ module _ (P : Program) (types : List Ty) where
   all_shaped_in [] all = refl
   all_shaped_in (f ∷ fs) all = both _ _ (All-head (FunctionFits P types) f fs all).shaped (all_shaped_in fs (All-tail (FunctionFits P types) f fs all))
 
-  function_within : (f : Function) → FunctionFits P types f → IsFunctionWithin P.types (function_of types f)
-  function_within f fits = record {
-    name = fits.name;
-    parameters = omega (arith, fits.few, length-map f.parameters.items (type_at types));
+  function_within : (f : Function) → FunctionFits P types f → IsFunctionWithin (function_of types f)
+  function_within f fits = record { name = fits.name; parameters = omega (arith, fits.few, length-map f.parameters.items (type_at types)) }
+
+  body_within : (f : Function) → FunctionFits P types f → IsBodyWithin P.types (function_of types f)
+  body_within f fits = record {
     parameter_types = flat_types types f.parameters.items fits.parameters;
     result_type = fits.result.flat;
     locals = fits.locals;
@@ -120,13 +121,19 @@ module _ (types : TyTable) (named : List NamedType) (state : TyId) (functions : 
         types = omega (arith, fit.few_named, length-map named (λ (d : NamedType). map (λ (c : Constructor). types_at T c.fields.items) d.constructors.items));
         constructors = few_constructors T named fit.each_named;
         fields = of_table T (λ fields. length fields ≤ most_fields) (λ c fits. omega (arith, fits.few, length-map c.fields.items (type_at T))) named fit.each_named;
-        field_types = of_table T (All IsFlatType) (λ c fits. flat_types T c.fields.items fits.fields) named fit.each_named;
-        state_type = fit.state_fits.flat;
         functions = omega (arith, fit.few_functions, length-map functions (function_of T));
-        each = All-map (IsFunctionWithin (table_of T named)) (function_of T) functions
-            (All-weaker (FunctionFits (judged types named state functions) T) (λ (f : Function). IsFunctionWithin (table_of T named) (function_of T f))
+        each = All-map IsFunctionWithin (function_of T) functions
+            (All-weaker (FunctionFits (judged types named state functions) T) (λ (f : Function). IsFunctionWithin (function_of T f))
             (function_within (judged types named state functions) T) functions fit.each_function);
-        expressions = fit.expressions;
+        written = λ is. record {
+          field_types = of_table T (All IsFlatType) (λ c fits. flat_types T c.fields.items fits.fields) named fit.each_named;
+          state_type = fit.state_fits.flat;
+          bodies = All-map (IsBodyWithin (table_of T named)) (function_of T) functions
+              (All-weaker (FunctionFits (judged types named state functions) T) (λ (f : Function). IsBodyWithin (table_of T named) (function_of T f))
+              (body_within (judged types named state functions) T) functions fit.each_function);
+          expressions = fit.expressions;
+        };
+        short = omega arith;
       }
 
 -- the same parts, lent

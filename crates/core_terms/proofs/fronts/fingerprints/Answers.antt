@@ -8,4 +8,4 @@ loop-number-preserved g c =
     let hash = g.H.Hash32.hash in
     one_more hash c.args.types.now c.loop-number.number c.loop-number.prints.items c.push.new.self.items c.loop-number.invariant c.form.result c.in_ok-print.print
     c.form.ensures.parts c.form.ensures.form
-    (c.in_ok-print.ensures ∙ ap₂ (λ d ps. print_of_form hash d ps c.form.result) (c.of-declared.ensures ∙ ap hash c.text.ensures) c.deref.ensures.value) c.in_ok-push.ensures.items
+    (c.in_ok-print.ensures ∙ ap₂ (λ d ps. print_of_form hash d ps c.form.result) (c.of-declared.ensures ∙ ap hash (c.deref.ensures.value ∙ c.in_ok-text.ensures)) c.deref-in-loop-number.ensures.value) c.in_ok-push.ensures.items

@@ -55,7 +55,7 @@ returns-in_err-image-clause-finds g c = λ name told known.
     let q = declared_of c.in_ok-to.to in
     let image = c.args.image.now in
     let later = c.in_ok-from.ensures.contents ∙ known in
-    let none : migration_fault p q ≡ None = sym c.migration_fault.ensures ∙ c.in_default.is in
+    let none : migration_fault p q ≡ None = sym c.in_ok-fault.ensures ∙ c.in_default.is in
     let moved : Value → Option Answer = λ v. Some (moved_answer q.named v name) in
     let err = err_from_is_err_and c.from_residual-in_err-image.result c.from_residual-in_err-image.ensures.1 in
     output_halt name _ c.from_residual-in_err-image.result c.in_err-image.field-0.0 (err.1 ∙ ap Err err.2)
@@ -70,7 +70,7 @@ returns-in_err-image-clause-reached g c = λ name.
     let program = c.args.program.now in
     let image = c.args.image.now in
     let other = c.args.other.now in
-    let none : migration_fault p q ≡ None = sym c.migration_fault.ensures ∙ c.in_default.is in
+    let none : migration_fault p q ≡ None = sym c.in_ok-fault.ensures ∙ c.in_default.is in
     let err = err_from_is_err_and c.from_residual-in_err-image.result c.from_residual-in_err-image.ensures.1 in
     faults_reached (migrated_answer program image other name) image _ _ _ c.from_residual-in_err-image.result (err.1 ∙ ap Err err.2)
     (λ files known. without_image program image other name files p q (c.in_ok-from.ensures.goes files known) (c.in_ok-to.ensures.goes files (c.in_ok-from.ensures.contents ∙ known)) none)
@@ -80,7 +80,7 @@ pub move_state-requires : goal.move_state-requires
 move_state-requires g c =
     let p = c.in_ok-from.from in
     let q = c.in_ok-to.to in
-    let none : migration_fault (declared_of p) (declared_of q) ≡ None = sym c.migration_fault.ensures ∙ c.in_default.is in
+    let none : migration_fault (declared_of p) (declared_of q) ≡ None = sym c.in_ok-fault.ensures ∙ c.in_default.is in
     let root = c.in_ok-image.ensures.image in (
       meaning p,
       p.text_digest.0,
@@ -95,7 +95,7 @@ returns-clause-finds g c = λ name told known.
     let q = c.in_ok-to.to in
     let image = c.args.image.now in
     let later = c.in_ok-from.ensures.contents ∙ known in
-    let none : migration_fault (declared_of p) (declared_of q) ≡ None = sym c.migration_fault.ensures ∙ c.in_default.is in
+    let none : migration_fault (declared_of p) (declared_of q) ≡ None = sym c.in_ok-fault.ensures ∙ c.in_default.is in
     let keeps = keeps_states c.equal_texts_are_equal_tables.ensures p q none c.in_ok-from.ensures.text c.in_ok-to.ensures.text in
     let moved : Value → Option Answer = λ v. Some (moved_answer (named_of q) v name) in
     let root = c.in_ok-image.ensures.image in
@@ -113,7 +113,7 @@ pub returns-clause-reached : goal.returns-clause-reached
 returns-clause-reached g c = λ name.
     let p = c.in_ok-from.from in
     let q = c.in_ok-to.to in
-    let none : migration_fault (declared_of p) (declared_of q) ≡ None = sym c.migration_fault.ensures ∙ c.in_default.is in
+    let none : migration_fault (declared_of p) (declared_of q) ≡ None = sym c.in_ok-fault.ensures ∙ c.in_default.is in
     let keeps = keeps_states c.equal_texts_are_equal_tables.ensures p q none c.in_ok-from.ensures.text c.in_ok-to.ensures.text in
     let root = c.in_ok-image.ensures.image in
     let held = subst (λ (bytes : List ℕ). image_of (meaning p) p.text_digest.0 bytes ≡ Root root.0) (sym c.deref_mut.ensures.value) root.1 in
@@ -124,7 +124,7 @@ pub returns-clause-cause : goal.returns-clause-cause
 returns-clause-cause g c =
     let p = c.in_ok-from.from in
     let q = c.in_ok-to.to in
-    let none : migration_fault (declared_of p) (declared_of q) ≡ None = sym c.migration_fault.ensures ∙ c.in_default.is in
+    let none : migration_fault (declared_of p) (declared_of q) ≡ None = sym c.in_ok-fault.ensures ∙ c.in_default.is in
     let keeps = keeps_states c.equal_texts_are_equal_tables.ensures p q none c.in_ok-from.ensures.text c.in_ok-to.ensures.text in
     let root = c.in_ok-image.ensures.image in
     let held = subst (λ (bytes : List ℕ). image_of (meaning p) p.text_digest.0 bytes ≡ Root root.0) (sym c.deref_mut.ensures.value) root.1 in

@@ -1,7 +1,7 @@
 use Rattle.std.proofs.Common.{◌≡◌, true, length, Vec, refl, nat_lt}
 use Rattle.std.specs.List.{list_all}
 use Rattle.std.specs.declared.alloc.Global.{Global}
-use Rattle.core_terms.specs.ProgramLimits.{IsShort, IsWithinLimits}
+use Rattle.core_terms.specs.ProgramLimits.{IsWithinLimits}
 use Rattle.core_terms.specs.ProgramTrees.{has_fields_below, has_types_below, is_within}
 use Rattle.core_terms.specs.ProgramParts.{compiled_program}
 use Rattle.core_terms.specs.TypeTables.{types_of_forms}
@@ -44,12 +44,6 @@ invariant_of-result-clause-limits c =
     let e = c.in_ok-types.ensures in
     carried (λ (table : TyTable) (named : Names) (state : TyId). IsWithinLimits (compiled_program table named.items state c.args.functions.items c.args.code.items))
     c.in_ok-types.types c.args.types c.args.named c.args.state e.table e.named e.state c.requires.limits
-
-pub invariant_of-result-clause-short : goal.invariant_of-result-clause-short
-invariant_of-result-clause-short c =
-    let e = c.in_ok-types.ensures in
-    carried (λ (table : TyTable) (named : Names) (state : TyId). IsShort (compiled_program table named.items state c.args.functions.items c.args.code.items).code)
-    c.in_ok-types.types c.args.types c.args.named c.args.state e.table e.named e.state c.requires.short
 
 -- all that stands within the table does
 within : (table : TyTable) (named : Names) (state : TyId) (functions : _) → is_within table.forms.keys named.items state functions ≡ true
