@@ -93,7 +93,7 @@ fn opened(store: &Store, r: Ref) -> Ref {
             return r;
         }
         match store.view(r) {
-            View::Auth(Held::Inner(inner)) => r = *inner,
+            View::Auth(Held::Inner(inner)) => r = inner,
             _ => return r,
         }
     }

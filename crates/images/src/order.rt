@@ -84,7 +84,7 @@ fn form_of(records: &Records, known: &[TyId], view: View<'_>) -> TyForm
         View::Constructor(named, _, _) => TyForm::NamedForm(named),
         View::Items(items) => items_form(records, known, items),
         View::Auth(Held::Inner(inner) | Held::Both(_, inner)) => {
-            TyForm::AuthForm(type_in(records, known, *inner))
+            TyForm::AuthForm(type_in(records, known, inner))
         }
         View::Auth(Held::Only(_)) => TyForm::UnitForm,
     }
@@ -116,7 +116,7 @@ fn push_inner(order: &mut Vec<(TyId, Ref)>, form: TyForm, view: View<'_>) -> Res
     };
     match view {
         View::Auth(Held::Inner(inner) | Held::Both(_, inner)) => {
-            order.push((ty, *inner))?;
+            order.push((ty, inner))?;
             Ok(())
         }
         _ => Ok(()),

@@ -108,7 +108,7 @@ fn what_is_authenticated_is_viewed(rt: HostRuntime) -> Result<(), Fail> {
     let View::Auth(held) = store.view(both) else {
         panic!(rt; "nothing is held");
     };
-    assert!(rt; *held == Held::Both(Digest([9; 32]), text));
+    assert!(rt; held == Held::Both(Digest([9; 32]), text));
     Ok(())
 }
 

@@ -1,31 +1,11 @@
--- The nodes that the code holds and reads.
+-- Numbers of nodes, as the code goes through them.
 use Rattle.std.proofs.Common.{◌≡◌, ℕ, zero, suc, ◌+◌, ◌<◌, max, true, List, [], ◌∷◌, length, drop, Some, None, slice_get, slice_index_or, nat_lt, sym, ◌∙◌, ap, subst, arith, ltb-true, drop-cons, add-one}
-use Rattle.std.proofs.lemmas.List.{length-map}
 use Rattle.std.specs.List.{list_all}
-use Rattle.std.specs.Option.{option_map, option_map_or}
-use Rattle.std.proofs.lemmas.Option.{slice_get-map, slice_get-get_or}
 use Rattle.value_store.specs.Nodes as meant
 use Rattle.value_store.specs.Nodes.{depth_at, form_at, greatest_depth, size_at, total_size}
-use Rattle.value_store.specs.CodeNodes.{form_of, node_of, nodes_of, numbers_of}
-use Rattle.value_store.specs.declared.node.Node.{Node}
+use Rattle.value_store.specs.CodeNodes.{numbers_of}
 use Rattle.value_store.specs.declared.node.Ref.{Ref}
 use Rattle.value_store.proofs.SoundNodes.{conjuncts}
-
-module _ (items : List Node) (r : ℕ) (node : Node) (there : r < length (nodes_of items)) (is : node ≡ slice_index_or items r node) where
-  -- a node that was read
-  pub node_read : slice_get (nodes_of items) r ≡ Some (node_of node)
-  node_read =
-      slice_get-map node_of items r
-      ∙ ap (option_map node_of) (slice_get-get_or items r node (subst (λ n. r < n) (length-map items node_of) there) ∙ ap Some (sym is))
-
-  pub form_read : form_at (nodes_of items) r ≡ Some (form_of node.form)
-  form_read = ap (option_map (λ (n : meant.Node). n.form)) node_read
-
-  pub size_read : size_at (nodes_of items) r ≡ node.size
-  size_read = ap (λ o. option_map_or (λ (n : meant.Node). n.size) o 0) node_read
-
-  pub depth_read : depth_at (nodes_of items) r ≡ node.depth
-  depth_read = ap (λ o. option_map_or (λ (n : meant.Node). n.depth) o 0) node_read
 
 -- a number among some that are all below n
 pub number_below : (refs : List Ref) (n i : ℕ) (d : Ref) → list_all (λ r. nat_lt r n) (numbers_of refs) ≡ true → i < length refs → (slice_index_or refs i d).0 < n

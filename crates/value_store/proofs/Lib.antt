@@ -14,13 +14,20 @@ pub mod ProverNodes
 pub mod PutNodes
 -- the sizes and the depths of some nodes
 pub mod CodeLists
--- a store's put, by which each node is added
-pub mod CodeStores
+-- packed nodes: put, view, cut_to
+pub mod Places
+pub mod Pools
+pub mod PackedPuts
+pub mod Viewed
+-- the puts of a store and of own nodes
+pub mod AddedNodes
 -- what a marker of another crate makes
 pub mod MarkedNodes
--- own nodes over a store's: put, cut_to
+-- a store that is cut, and own nodes over one
 pub mod Overs
 -- absorb: the nodes that are moved, the loops that move them, the store after them
 pub mod Renumbered
 pub mod Overwriting
+pub mod Joined
+pub mod AbsorbedPools
 pub mod Absorbed

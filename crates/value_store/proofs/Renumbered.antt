@@ -1,18 +1,18 @@
 -- What a node stands for is kept where the nodes are renumbered.
-use Rattle.std.proofs.Common.{◌≡◌, ℕ, zero, suc, ◌+◌, ◌-◌, ◌<◌, ◌≤◌, ◌⊎◌, inl, inr, Bool, true, false, max, ◌&&◌, List, [], ◌∷◌, ◌++◌, length, take, map, Option, Some, None, nat_lt, slice_get, refl, sym, ap, ap₂, ◌∙◌, subst, arith, ltb-true, lt-ltb, le-ltb, if◌then◌else◌}
+use Rattle.std.proofs.Common.{◌≡◌, ℕ, suc, ◌+◌, ◌-◌, ◌<◌, ◌≤◌, ◌⊎◌, inl, inr, true, max, ◌&&◌, List, [], ◌∷◌, ◌++◌, length, take, map, Option, Some, None, nat_lt, slice_get, refl, sym, ap, ap₂, ◌∙◌, subst, arith, ltb-true, lt-ltb, le-ltb, if◌then◌else◌}
 use Rattle.std.specs.List.{list_all}
 use Rattle.std.specs.Option.{option_map, option_map_or}
-use Rattle.std.proofs.lemmas.Option.{slice_get_past, slice_get-map, slice_get_within}
-use Rattle.std.proofs.lemmas.List.{length-take, length-map}
+use Rattle.std.proofs.lemmas.Option.{slice_get-map, slice_get_within}
+use Rattle.std.proofs.lemmas.List.{length-take}
 use Rattle.core_terms.specs.Types.{Ty, UnitTy, BoolTy, IntTy, TextTy, PairTy, NamedTy, AuthTy, VecTy, Table, fields_at, item_types, OnFields}
 use Rattle.core_terms.specs.Values.{Value, UnitV, BoolV, IntV, TextV, PairV, ConV, ItemsV, Values, NoV, AndV}
 use Rattle.core_terms.specs.Formats.{depth_limit}
-use Rattle.value_store.specs.Nodes.{Held, InnerHeld, BothHeld, OnlyHeld, Form, UnitNode, BoolNode, IntNode, TextNode, PairNode, ConNode, AuthNode, FormFits, Node, AreSound, IsSoundNode, depth_at, form_at, form_depth, form_size, greatest_depth, inner_refs, refers_below, refs_in, size_at, total_size, VecNode}
-use Rattle.value_store.specs.Standing.{Kind, IdealNodes, ProverNodes, VerifierNodes, Holds, Keeps, StandsFor, AllStandFor}
+use Rattle.value_store.specs.Nodes.{Held, InnerHeld, BothHeld, OnlyHeld, Form, UnitNode, BoolNode, IntNode, TextNode, PairNode, ConNode, AuthNode, Node, AreSound, IsSoundNode, depth_at, form_at, form_depth, form_size, greatest_depth, refers_below, refs_in, size_at, total_size, VecNode}
+use Rattle.value_store.specs.Standing.{Kind, IdealNodes, ProverNodes, VerifierNodes, Holds, StandsFor, AllStandFor}
 use Rattle.value_store.specs.Moving.{absorbed, moved_form, moved_held, moved_node, moved_ref}
 use Rattle.value_store.proofs.SoundNodes.{conjuncts, sound_too, lower_refs}
-use Rattle.value_store.proofs.CodeStores.{with_parts}
-use Rattle.value_store.proofs.NodeLists.{node_there, slice_get_before, slice_get_take}
+use Rattle.value_store.specs.Placing.{with_parts}
+use Rattle.value_store.proofs.NodeLists.{get_there, node_there, slice_get_before, slice_get_take}
 
 -- the numbers
 below_stays : (from up r : ℕ) → r < from → moved_ref from up r ≡ r
@@ -80,11 +80,6 @@ module _ (kind : Kind) (types : Table) (from up : ℕ) (old new : List Node)
 pub get_past : {X : Type 0} (xs ys : List X) (i : ℕ) → slice_get (xs ++ ys) (length xs + i) ≡ slice_get ys i
 get_past [] ys i = let e : 0 + i ≡ i = omega arith in ap (slice_get ys) e
 get_past (x ∷ xs) ys i = let e : suc (length xs) + i ≡ suc (length xs + i) = omega arith in ap (slice_get (x ∷ xs ++ ys)) e ∙ get_past xs ys i
-
-get_there : {X : Type 0} (xs : List X) (r : ℕ) → r < length xs → (x : X) × (slice_get xs r ≡ Some x)
-get_there [] r h = absurd (omega arith)
-get_there (x ∷ xs) zero h = (x, refl)
-get_there (x ∷ xs) (suc r) h = get_there xs r (omega arith)
 
 -- own nodes that were put behind the first `from` nodes of the base, moved behind all of it
 module _ {limit : ℕ} (from : ℕ) (base own : List Node) (within : from ≤ length base) (sound : AreSound limit (take from base ++ own)) where

@@ -1,9 +1,12 @@
 pub mod Nodes
 pub mod Standing
 pub mod CodeNodes
+pub mod Placing
+pub mod Packing
 pub mod Views
 pub mod Stores
 pub mod Markings
 pub mod Overs
 pub mod Moving
+pub mod Shifting
 pub mod Laws

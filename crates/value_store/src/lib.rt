@@ -10,6 +10,7 @@ pub mod marker;
 pub mod node;
 pub mod nodes;
 pub mod over;
+pub mod packed;
 pub mod parts;
 pub mod store;
 pub mod view;

@@ -4,27 +4,23 @@ ghost use Rattle.std.specs.List.{list_all};
 ghost use Rattle.core_terms.specs.Types.{Ty, UnitTy, BoolTy, IntTy, TextTy, PairTy, NamedTy, AuthTy, VecTy, Table, fields_at, is_length, item_types};
 ghost use Rattle.core_terms.specs.Values.{Value, UnitV, BoolV, IntV, TextV, PairV, ConV, ItemsV, Values, size, depth};
 ghost use Rattle.core_terms.specs.Formats.{depth_limit};
-ghost use Rattle.value_store.specs.CodeNodes.{form_of, held_of, node_of, numbers_of};
+ghost use Rattle.value_store.specs.CodeNodes.{held_of, numbers_of};
 ghost use Rattle.value_store.specs.Nodes.{AreSound, FormFits, form_depth, form_size, UnitNode, BoolNode, IntNode, TextNode, PairNode, ConNode, AuthNode, Node as Meant, depth_at, form_at, greatest_depth, refers_below, size_at, total_size, Lent, greatest_limit, least_limit, VecNode};
 ghost use Rattle.value_store.specs.Standing.{AllStandFor, Holds, Keeps, Kind, StandsFor};
 
-use crate::node::{Form, Held, Node, Ref};
+use crate::node::{DIGEST_SIZE, Held, INT_SIZE, Ref};
+use crate::packed::Packed;
 use crate::store::Mark;
 use crate::view::View;
 use core_terms::{NamedId, Tag};
 use std::alloc::{AllocError, Global};
 
-/// The number of bytes of the spelling of an int.
-const INT_SIZE: u32 = 8;
-
 /// The number of bytes of the length in the spelling of a text.
 const TEXT_LENGTH_SIZE: u32 = 4;
 
-/// The number of bytes of the spelling of a digest.
-const DIGEST_SIZE: u32 = 32;
-
 /// A list of nodes, behind which more are put. Each refers to earlier ones and is within the limits.
 pub trait Nodes {
+    ghost use Rattle.value_store.specs.Packing.{packed_nodes};
     ghost use Rattle.value_store.specs.Stores.{Puts};
     ghost use Rattle.value_store.specs.Views.{form_shown};
 
@@ -34,26 +30,27 @@ pub trait Nodes {
     /// What they are begun with, and keep: the greatest size of a node, and the first of them, which are another's and are never cut.
     ghost lent: { Self → Lent };
 
-    /// Puts a node of this form, which has this size and depth. Where memory is wanting nothing is changed.
-    fn put(&mut self, form: Form, size: u32, depth: u32) -> Result<Ref, AllocError>
-        requires refers { refers_below (length (nodes self.old)) (form_of form) ≡ true }
-        requires size { size ≡ form_size (nodes self.old) (form_of form) }
-        requires depth { depth ≡ form_depth (nodes self.old) (form_of form) }
-        requires fits { FormFits (lent self.old).limit (nodes self.old) (form_of form) }
-        ensures put { Puts (nodes self.old) (form_of form) result (nodes self.new) }
+    /// Puts a node of the form that is shown, which has this size and depth. Where memory is wanting nothing is changed.
+    fn put(&mut self, form: View<'_>, size: u32, depth: u32) -> Result<Ref, AllocError>
+        requires refers { refers_below (length (nodes self.old)) (form_shown form) ≡ true }
+        requires size { size ≡ form_size (nodes self.old) (form_shown form) }
+        requires depth { depth ≡ form_depth (nodes self.old) (form_shown form) }
+        requires fits { FormFits (lent self.old).limit (nodes self.old) (form_shown form) }
+        ensures put { Puts (nodes self.old) (form_shown form.entry) result (nodes self.new) }
         ensures keeps { Keeps (nodes self.old) (nodes self.new) }
         ensures lent { lent self.new ≡ lent self.old };
 
-    /// The node with this number.
-    fn node(&self, r: Ref) -> &Node
+    /// Where the node with this number stands: the list, and its number there.
+    fn place(&self, r: Ref) -> (&Packed, usize)
         requires { r.0 < length (nodes self.now) }
-        ensures { slice_get (nodes self.now) r.0 ≡ Some (node_of result.now) };
+        ensures there { result.1 < length (packed_nodes result.0.now) }
+        ensures same { slice_get (packed_nodes result.0.now) result.1 ≡ slice_get (nodes self.now) r.0 };
 
     /// The greatest size of a node.
     fn limit(&self) -> u32
         ensures { result ≡ (lent self.now).limit };
 
-    /// Where texts and fields are kept.
+    /// Where the nodes are kept.
     fn alloc(&self) -> Global;
 
     /// The place behind all nodes that stand now.
@@ -88,7 +85,7 @@ pub trait Nodes {
         ensures keeps { Keeps (nodes self.old) (nodes self.new) }
         ensures lent { lent self.new ≡ lent self.old }
     {
-        self.put(Form::UnitNode, 0, 1)
+        self.put(View::Unit, 0, 1)
     }
 
     /// Puts a bool.
@@ -98,7 +95,7 @@ pub trait Nodes {
         ensures keeps { Keeps (nodes self.old) (nodes self.new) }
         ensures lent { lent self.new ≡ lent self.old }
     {
-        self.put(Form::BoolNode(value), 1, 1)
+        self.put(View::Bool(value), 1, 1)
     }
 
     /// Puts an int.
@@ -108,7 +105,7 @@ pub trait Nodes {
         ensures keeps { Keeps (nodes self.old) (nodes self.new) }
         ensures lent { lent self.new ≡ lent self.old }
     {
-        self.put(Form::IntNode(value), INT_SIZE, 1)
+        self.put(View::Int(value), INT_SIZE, 1)
     }
 
     /// Puts a text, which is within the limits.
@@ -120,8 +117,7 @@ pub trait Nodes {
         ensures lent { lent self.new ≡ lent self.old }
     {
         let size = TEXT_LENGTH_SIZE + text.len() as u32;
-        let text = String::from_str(self.alloc(), text)?;
-        self.put(Form::TextNode(text), size, 1)
+        self.put(View::Text(text), size, 1)
     }
 
     /// Puts a pair of two values that stand here. The pair is within the limits.
@@ -139,7 +135,7 @@ pub trait Nodes {
     {
         let size = self.shallow_size(first) + self.shallow_size(second);
         let depth = self.shallow_depth(first).max(self.shallow_depth(second));
-        self.put(Form::PairNode(first, second), size, 1 + depth)
+        self.put(View::Pair(first, second), size, 1 + depth)
     }
 
     /// Puts a value of a named type: the constructor with this tag, with values that stand here as its fields. It is within the
@@ -162,8 +158,7 @@ pub trait Nodes {
     {
         let size = 1 + total_size(self, fields);
         let depth = 1 + greatest_depth(self, fields);
-        let fields = fields.to_vec(self.alloc())?;
-        self.put(Form::ConstructorNode(named, tag, fields), size, depth)
+        self.put(View::Constructor(named, tag, fields), size, depth)
     }
 
     /// Puts an array of values that stand here, 1 to 64 of one type. It is within the limits.
@@ -181,8 +176,7 @@ pub trait Nodes {
     {
         let size = total_size(self, items);
         let depth = 1 + greatest_depth(self, items);
-        let items = items.to_vec(self.alloc())?;
-        self.put(Form::VecNode(items), size, depth)
+        self.put(View::Items(items), size, depth)
     }
 
     /// Puts an authenticated value, by what is held of it. A value that is referred to stands here.
@@ -196,7 +190,7 @@ pub trait Nodes {
         ensures keeps { Keeps (nodes self.old) (nodes self.new) }
         ensures lent { lent self.new ≡ lent self.old }
     {
-        self.put(Form::AuthNode(held), DIGEST_SIZE, 1)
+        self.put(View::Auth(held), DIGEST_SIZE, 1)
     }
 
     /// The node with this number. Takes no memory.
@@ -205,7 +199,8 @@ pub trait Nodes {
         ensures form { form_at (nodes self.now) r.0 ≡ Some (form_shown result) }
         ensures refers { refers_below r.0 (form_shown result) ≡ true }
     {
-        View::of(&self.node(r).form)
+        let (packed, number) = self.place(r);
+        packed.view(number)
     }
 
     /// The number of bytes of the spelling of what the node stands for, in constant time: 32 for an authenticated value.
@@ -215,7 +210,8 @@ pub trait Nodes {
         ensures size { (kind : Kind) (types : Table) (t : Ty) (v : Value) → StandsFor kind types (nodes self.now) r.0 t v → result ≡ size types t v }
         ensures limit { result ≤ (lent self.now).limit }
     {
-        self.node(r).size
+        let (packed, number) = self.place(r);
+        packed.size(number)
     }
 
     /// The depth of what the node stands for, in constant time: 1 for an authenticated value.
@@ -225,7 +221,8 @@ pub trait Nodes {
         ensures depth { (kind : Kind) (types : Table) (t : Ty) (v : Value) → StandsFor kind types (nodes self.now) r.0 t v → result ≡ depth types t v }
         ensures limit { result ≤ depth_limit }
     {
-        self.node(r).depth
+        let (packed, number) = self.place(r);
+        packed.depth(number)
     }
 
     /// Whether the sum of the sizes of some nodes is at most `limit`.

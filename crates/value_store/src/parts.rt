@@ -27,7 +27,7 @@ pub fn inner_of<N: Nodes>(store: &N, r: Ref) -> Ref
         → StandsFor (ProverNodes digest) types (N.nodes store.now) result.0 t x }
 {
     match store.view(r) {
-        View::Auth(Held::Both(_, inner)) => *inner,
+        View::Auth(Held::Both(_, inner)) => inner,
         _ => unreachable!(),
     }
 }

@@ -1,23 +1,25 @@
 // The store: nodes in the order in which they were put.
-ghost use Rattle.std.specs.Prelude.{◌≡◌, ◌<◌, ◌≤◌, ◌⊎◌, ◌∷◌, ◌++◌, ℕ, true, [], length, take, refl, slice_get, OnErr, OnOk};
+ghost use Rattle.std.specs.Prelude.{◌≡◌, ◌<◌, ◌≤◌, ℕ, true, [], length, take, refl, slice_get};
 ghost use Rattle.core_terms.specs.Types.{Ty, Table};
 ghost use Rattle.core_terms.specs.Values.{Value};
-ghost use Rattle.value_store.specs.CodeNodes.{form_of, node_of, nodes_of};
+ghost use Rattle.value_store.specs.Packing.{packed_nodes};
 ghost use Rattle.value_store.specs.Nodes.{AreSound, FormFits, form_depth, form_size, greatest_limit, least_limit, refers_below};
 ghost use Rattle.value_store.specs.Standing.{Keeps, Kind, StandsFor};
 
-use crate::node::{Form, Node, Ref};
+use crate::node::Ref;
 use crate::nodes::Nodes;
+use crate::packed::Packed;
+use crate::view::View;
 use std::alloc::{AllocError, Global};
 
 /// The nodes that were put so far. Each refers to earlier ones and is within the limits: a spelling of at most as many bytes as the store's
 /// limit, which is that of a format, and a depth of at most 512.
 #[derive(Drop)]
 pub struct Store {
-    pub(crate) nodes: Vec<Node>,
+    pub(crate) packed: Packed,
     pub(crate) limit: u32,
     alloc: Global,
-    ghost sound: { AreSound limit (nodes_of nodes.items) },
+    ghost sound: { AreSound limit (packed_nodes packed) },
     ghost least: { least_limit ≤ limit },
     ghost greatest: { limit ≤ greatest_limit },
 }
@@ -37,7 +39,7 @@ impl Store {
         ensures limit { result.limit ≡ limit }
     {
         Store {
-            nodes: Vec::new(alloc),
+            packed: Packed::new(alloc),
             limit,
             alloc,
         }
@@ -47,7 +49,7 @@ impl Store {
     pub fn count(&self) -> usize
         ensures { result ≡ length (nodes_in self.now) }
     {
-        self.nodes.len()
+        self.packed.len()
     }
 }
 
@@ -67,14 +69,14 @@ impl Nodes for Store {
     ghost first = { λ s. refl };
 
     #[inline(always)]
-    fn put(&mut self, form: Form, size: u32, depth: u32) -> Result<Ref, AllocError> {
-        let r = Ref(self.nodes.len());
-        add(&mut self.nodes, Node { form, size, depth })?;
+    fn put(&mut self, form: View<'_>, size: u32, depth: u32) -> Result<Ref, AllocError> {
+        let r = Ref(self.packed.len());
+        self.packed.put(self.alloc, form, size, depth)?;
         Ok(r)
     }
 
-    fn node(&self, r: Ref) -> &Node {
-        &self.nodes[r.0]
+    fn place(&self, r: Ref) -> (&Packed, usize) {
+        (&self.packed, r.0)
     }
 
     fn limit(&self) -> u32 {
@@ -86,22 +88,10 @@ impl Nodes for Store {
     }
 
     fn mark(&self) -> Mark {
-        Mark(self.nodes.len())
+        Mark(self.packed.len())
     }
 
     fn cut_to(&mut self, mark: Mark) {
-        self.nodes.truncate(mark.0);
+        self.packed.cut_to(mark.0);
     }
-}
-
-/// Adds a node at the end.
-// Each call that puts a node ends in it, so LLVM would not inline it by itself.
-#[inline(always)]
-pub(crate) fn add(nodes: &mut Vec<Node>, node: Node) -> Result<(), AllocError>
-    ensures either { (nodes.new.items ≡ nodes.old.items) ⊎ (nodes.new.items ≡ nodes.old.items ++ node ∷ []) }
-    ensures ok { OnOk result (nodes.new.items ≡ nodes.old.items ++ node ∷ []) }
-    ensures err { OnErr result (nodes.new.items ≡ nodes.old.items) }
-{
-    nodes.push(node)?;
-    Ok(())
 }

@@ -22,7 +22,7 @@ pub(crate) fn part(view: View<'_>, index: usize) -> Option<Ref>
         View::Pair(first, second) => [first, second].get(index).copied(),
         View::Constructor(_, _, fields) => fields.get(index).copied(),
         View::Items(items) => items.get(index).copied(),
-        View::Auth(Held::Inner(inner) | Held::Both(_, inner)) if index == 0 => Some(*inner),
+        View::Auth(Held::Inner(inner) | Held::Both(_, inner)) if index == 0 => Some(inner),
         _ => None,
     }
 }

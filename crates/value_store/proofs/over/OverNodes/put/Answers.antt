@@ -1,16 +1,25 @@
-use Rattle.std.proofs.Common.{ap₂}
-use Rattle.value_store.specs.CodeNodes.{form_of}
-use Rattle.value_store.specs.Overs.{lent_nodes}
-use Rattle.value_store.proofs.CodeStores.{with_parts}
-use Rattle.value_store.proofs.Overs.{over_keeps, over_sound}
+use Rattle.value_store.specs.Overs.{lent_nodes, over_nodes}
+use Rattle.value_store.specs.Packing.{packed_nodes}
+use Rattle.value_store.specs.Placing.{with_parts}
+use Rattle.value_store.specs.Views.{form_shown}
+use Rattle.std.proofs.Common.{◌++◌}
+use Rattle.value_store.proofs.AddedNodes.{added_keeps, added_sound, adds_either, over_either}
 use Rattle.value_store.proofs.over.OverNodes.put.Goals as goal
 
 pub invariant_of-self : goal.invariant_of-self
-invariant_of-self c = record {
-  within = c.args.self.now.within;
-  sound = over_sound (lent_nodes c.args.self.now) c.args.self.now.own.nodes.items c.add.new.nodes.items _ c.add.ensures.either
-      (ap₂ (with_parts (form_of c.args.form)) c.requires.size c.requires.depth) c.requires.refers c.requires.fits c.args.self.now.sound;
-}
+invariant_of-self c =
+    let o = c.args.self.now in
+    record {
+      within = o.within;
+      sound = added_sound (over_nodes o) (lent_nodes o ++ packed_nodes c.put.new.self) (form_shown c.args.form) c.args.size c.args.depth c.requires.size c.requires.depth
+          (over_either (lent_nodes o) (packed_nodes o.own.packed) (packed_nodes c.put.new.self) (with_parts (form_shown c.args.form) c.args.size c.args.depth)
+          (adds_either (packed_nodes o.own.packed) (packed_nodes c.put.new.self) _ c.put.result c.put.ensures))
+          c.requires.refers c.requires.fits o.sound;
+    }
 
 pub returns-clause-keeps : goal.returns-clause-keeps
-returns-clause-keeps c = over_keeps (lent_nodes c.args.self.now) c.args.self.now.own.nodes.items c.add.new.nodes.items _ c.add.ensures.either
+returns-clause-keeps c =
+    let o = c.args.self.now in
+    added_keeps (over_nodes o) (lent_nodes o ++ packed_nodes c.put.new.self) (form_shown c.args.form) c.args.size c.args.depth c.requires.size c.requires.depth
+    (over_either (lent_nodes o) (packed_nodes o.own.packed) (packed_nodes c.put.new.self) (with_parts (form_shown c.args.form) c.args.size c.args.depth)
+    (adds_either (packed_nodes o.own.packed) (packed_nodes c.put.new.self) _ c.put.result c.put.ensures))
