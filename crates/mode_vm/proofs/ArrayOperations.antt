@@ -38,7 +38,7 @@ module _ (m : Marking) (P : Program) (nodes : List Node) (frame : Frame) (n : �
   pub fill_acts : {E : Type 0} (new : List Node) → Keeps nodes new → (mid after : Frame) → IsAt frame frame.place frame.locals.items last mid → (made : Result Operand Trap)
       → ((t : Ty) (v : Value) → IsHeld (kind_of m P) P.types nodes r t v
       → Makes m (kind_of m P) P.types new (VecTy n t) (fill_of P.format.limit P.types n t v) made)
-      → (result : Result (Option Trap) E) → Finishes mid made after result → Acts m P new c after result
+      → (result : Result (Option Trap) E) → Finishes mid made after result → Acts m P new frame c after result
   fill_acts new keeps mid after at made makes =
       one_acts m P nodes frame (VecFill n) c b last r top fill_takes.0 (VecTy n fill_takes.0) fill_takes.2
       (λ v. fill_of P.format.limit P.types n fill_takes.0 v) (λ x h next env ops k w. refl) new keeps mid after at made (makes fill_takes.0)
@@ -65,7 +65,7 @@ module _ (m : Marking) (P : Program) (nodes : List Node) (frame : Frame) (c : Va
   pub get_acts : {E : Type 0} (mid after : Frame) → IsAt frame frame.place frame.locals.items last mid → (made : Result Operand Trap)
       → ((n : ℕ) (t : Ty) (u v : Value) → IsHeld (kind_of m P) P.types nodes first (VecTy n t) u → IsHeld (kind_of m P) P.types nodes second IntTy v
       → Makes m (kind_of m P) P.types nodes t (get_of n (items_in u) (int_in v)) made)
-      → (result : Result (Option Trap) E) → Finishes mid made after result → Acts m P nodes c after result
+      → (result : Result (Option Trap) E) → Finishes mid made after result → Acts m P nodes frame c after result
   get_acts mid after at made makes =
       two_acts m P nodes frame VecGet c b last first second top (VecTy get_takes.0 get_takes.1) IntTy get_takes.1 get_takes.2 get_run same nodes (λ kind types r t v h. h) mid after at made
       (makes get_takes.0 get_takes.1)
@@ -114,7 +114,7 @@ module _ (m : Marking) (P : Program) (nodes : List Node) (frame : Frame) (c : Va
       → ((n : ℕ) (t : Ty) (u v e : Value) → IsHeld (kind_of m P) P.types nodes first (VecTy n t) u → IsHeld (kind_of m P) P.types nodes second IntTy v
       → IsHeld (kind_of m P) P.types nodes third t e
       → Makes m (kind_of m P) P.types new (VecTy n t) (put_of P.format.limit P.types n t (items_in u) (int_in v) e) made)
-      → (result : Result (Option Trap) E) → Finishes mid made after result → Acts m P new c after result
+      → (result : Result (Option Trap) E) → Finishes mid made after result → Acts m P new frame c after result
   put_acts new keeps mid after at made makes =
       three_acts m P nodes frame VecPut c b last first second third top (VecTy put_takes.0 put_takes.1) IntTy put_takes.1 (VecTy put_takes.0 put_takes.1) put_takes.2 put_run same
       new keeps mid after at made (makes put_takes.0 put_takes.1)

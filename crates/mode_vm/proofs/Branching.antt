@@ -37,7 +37,7 @@ module _ (m : Marking) (P : Program) (nodes : List Node) (frame : Frame) (c : Va
   pub not_acts : {E : Type 0} (new : List Node) → Keeps nodes new → (mid after : Frame) → IsAt frame frame.place frame.locals.items last mid
       → (put : Operand) (value : Bool) → ((v : Value) → IsHeld (kind_of m P) P.types nodes r BoolTy v → v ≡ BoolV value)
       → IsHeld (kind_of m P) P.types new put BoolTy (BoolV (not value))
-      → (result : Result (Option Trap) E) → Finishes mid (Ok put) after result → Acts m P new c after result
+      → (result : Result (Option Trap) E) → Finishes mid (Ok put) after result → Acts m P new frame c after result
   not_acts new keeps mid after at put value is stands =
       one_acts m P nodes frame Not c b last r top BoolTy BoolTy negates run same new keeps mid after at (Ok put)
       (λ v h. (BoolV (not value), stands, λ k w. ap (λ v. Gives (BoolV (not (bool_in v))) k w) (is v h)))
@@ -83,14 +83,14 @@ module _ (m : Marking) (P : Program) (nodes : List Node) (frame : Frame) (skip :
       ∙ ap (λ x. act (generated P) (mode_of m P) (calls m P c.depth) (Branch skip) next (tie c.local_types c.locals) (held BoolTy x ∷ tie decides.below one.below) k w) is
 
   pub branched : (after : Frame) → ((v : Value) → IsHeld (kind_of m P) P.types nodes r BoolTy v → v ≡ BoolV true)
-      → IsAt frame (frame.place + 1) frame.locals.items last after → GoesOn m P nodes c after
+      → IsAt frame (frame.place + 1) frame.locals.items last after → GoesOn m P nodes frame c after
   branched after is at =
       let here : frame.place + 1 ≡ frame.place + 1 + 0 = omega arith in
       goes_on m P nodes nodes frame after (Branch skip) c b 0 frame.locals.items last c.local_types decides.below c.locals one.below
       (subst (λ p. IsAt frame p frame.locals.items last after) here at) decides.goes b.top.is.locals one.rest (same true (is one.x one.stands))
 
   pub skipped : (after : Frame) → ((v : Value) → IsHeld (kind_of m P) P.types nodes r BoolTy v → v ≡ BoolV false)
-      → IsAt frame (frame.place + 1 + skip) frame.locals.items last after → GoesOn m P nodes c after
+      → IsAt frame (frame.place + 1 + skip) frame.locals.items last after → GoesOn m P nodes frame c after
   skipped after is at =
       goes_on m P nodes nodes frame after (Branch skip) c b skip frame.locals.items last c.local_types decides.below c.locals one.below
       at decides.skips b.top.is.locals one.rest (same false (is one.x one.stands))

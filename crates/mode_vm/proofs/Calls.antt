@@ -22,10 +22,11 @@ use Rattle.mode_vm.specs.declared.operand.Operand.{Operand}
 use Rattle.mode_vm.specs.Meanings.{CauseOf, StateOf, mode_of}
 use Rattle.mode_vm.specs.Machines.{ValueFrame, ValueStack, stack_steps, waiting_of, enters, end_of, AreWaiting, AreDeep, IsDeep, Represents, IsNext}
 use Rattle.mode_vm.specs.Outcomes.{GoesTo}
-use Rattle.mode_vm.specs.StateParts.{Begins}
+use Rattle.mode_vm.specs.StateParts.{Begins, IsAt, frame_in}
 use Rattle.mode_vm.specs.declared.state.State.{State}
 use Rattle.mode_vm.proofs.Operands.{as_many}
 use Rattle.mode_vm.proofs.Frames.{ToNext, fits_first, fine_rest, drop_more, calls}
+use Rattle.mode_vm.proofs.Lifting.{waits_under}
 
 module _ (kind : Kind) (types : Table) (nodes : List Node) where
   -- the topmost operands are args, the last of them being the top, and rest are those below
@@ -187,10 +188,13 @@ module _ (m : Marking) (P : Program) (typed : IsTyped P) (z : Ty) (nodes : List 
     abbrev waits : ValueFrame
     waits = caller args kept long begins.operands
 
+    abbrev waits_at : IsAt old.top (old.top.place + 1) old.top.locals.items kept (frame_in begins.caller new.top.locals.below new.top.operands.below)
+    waits_at = begins.waits.is
+
     behind : next.rest ≡ drop begins.caller.place (code_at B begins.caller.function.0).code
     behind =
         ap (drop 1) (sym next.is ∙ shows.top.is.left) ∙ drop_more (code_at B old.top.function.0).code old.top.place 1
-        ∙ ap (λ p. drop p (code_at B old.top.function.0).code) (sym begins.waits.place) ∙ ap (λ f. drop begins.caller.place (code_at B f.0).code) (sym begins.waits.function)
+        ∙ ap (λ p. drop p (code_at B old.top.function.0).code) (sym waits_at.place) ∙ ap (λ f. drop begins.caller.place (code_at B f.0).code) (sym waits_at.function)
 
     pub call_leads : GoesTo m P z nodes true old.fuel cs new
     call_leads = (
@@ -207,19 +211,22 @@ module _ (m : Marking) (P : Program) (typed : IsTyped P) (z : Ty) (nodes : List 
           };
           starts = (accepted args kept long begins.operands).2;
         };
-        waits = subst (λ l. AreWaiting m P nodes z (code_at B f).result l (waits ∷ cs.waits)) (sym (ap reverse begins.waiting ∙ reverse-append old.waiting.items (begins.caller ∷ []))) (
+        waits = subst (λ l. AreWaiting m P nodes z (code_at B f).result new.top.locals.below new.top.operands.below l (waits ∷ cs.waits)) (sym (ap reverse begins.waiting ∙ reverse-append old.waiting.items (begins.caller ∷ []))) (
           record {
+            local_base = begins.waits.local_base;
+            operand_base = begins.waits.operand_base;
             is = record {
-              there = subst (λ f. f.0 < length (generated P).functions) (sym begins.waits.function) shows.top.is.there;
-              result = shows.top.is.result ∙ ap (λ f. (code_at B f.0).result) (sym begins.waits.function);
+              there = subst (λ f. f.0 < length (generated P).functions) (sym waits_at.function) shows.top.is.there;
+              result = shows.top.is.result ∙ ap (λ f. (code_at B f.0).result) (sym waits_at.function);
               left = behind;
               fine = fine_rest B cs.top.result (Call f) next.rest cs.top.shapes fine_here;
-              locals = subst (λ l. AllHeld (kind_of m P) P.types nodes l cs.top.local_types cs.top.locals) (sym begins.waits.locals) shows.top.is.locals;
-              operands = subst (λ l. AllHeld (kind_of m P) P.types nodes (reverse l) found.0 here.below) (sym begins.waits.operands) here.rest_stand;
+              locals = subst (λ l. AllHeld (kind_of m P) P.types nodes l cs.top.local_types cs.top.locals) (sym waits_at.locals) shows.top.is.locals;
+              operands = subst (λ l. AllHeld (kind_of m P) P.types nodes (reverse l) found.0 here.below) (sym waits_at.operands) here.rest_stand;
             };
             starts = found.2;
           },
-          shows.waits,
+          waits_under m P nodes nodes (λ kind types r t v h. h) z cs.top.result old.top (frame_in begins.caller new.top.locals.below new.top.operands.below) waits_at.over
+              (reverse old.waiting.items) cs.waits shows.waits,
         );
         deep = subst (λ b. IsDeep b new.fuel runs) (sym begins.entered) (subst (λ k. k ≤ suc (pred cs.top.depth)) (sym begins.fuel) (deep_called args kept long begins.operands));
         deep_below = subst (λ k. AreDeep k (waits ∷ cs.waits)) (sym begins.fuel) (deep_here args kept long begins.operands, shows.deep_below);

@@ -76,7 +76,7 @@ module _ (m : Marking) (P : Program) (nodes : List Node) (frame : Frame) (number
     pub make_acts : {E : Type 0} (new : List Node) → Keeps nodes new → (mid after : Frame) → IsAt frame frame.place frame.locals.items kept mid → (made : Result Operand Trap)
         → ((ts : List Ty) (vs : Values) → fields_at P.types number tag ≡ Some ts → AllHeld (kind_of m P) P.types nodes fields ts vs
         → Makes m (kind_of m P) P.types new (NamedTy number) (limited P.format.limit P.types (NamedTy number) (ConV tag vs)) made)
-        → (result : Result (Option Trap) E) → Finishes mid made after result → Acts m P new c after result
+        → (result : Result (Option Trap) E) → Finishes mid made after result → Acts m P new frame c after result
     make_acts new keeps mid after at made makes result finishes =
         made_acts m P nodes new keeps frame after (Make number tag) c b kept (NamedTy number) makes_of.1 split.below
         (limited P.format.limit P.types (NamedTy number) (ConV tag split.vs)) acts makes_of.4 split.rest_stand made

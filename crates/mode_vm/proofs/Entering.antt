@@ -1,9 +1,10 @@
 -- A frame is entered.
-use Rattle.std.proofs.Common.{◌≡◌, ℕ, suc, zero, ◌+◌, ◌*◌, ◌<◌, ◌≤◌, true, false, List, [], ◌∷◌, length, drop, reverse, slice_get, unwrap_or, refl, sym, ap, ap₂, ◌∙◌, subst, arith}
+use Rattle.std.proofs.Common.{◌≡◌, ℕ, suc, zero, ◌+◌, ◌*◌, ◌<◌, ◌≤◌, true, false, List, [], ◌∷◌, length, take, drop, reverse, slice_get, unwrap_or, refl, sym, ap, ap₂, ◌∙◌, subst, arith}
 use Rattle.std.proofs.Math.Nat.{suc-mul}
 use Rattle.core_terms.specs.Bodies.{FunctionCode, code_at, no_function_code}
 use Rattle.code_gen.specs.Code.{generated}
-use Rattle.mode_vm.specs.declared.frame.Frame.{Frame}
+use Rattle.mode_vm.specs.declared.frame.Waiting.{Waiting}
+use Rattle.mode_vm.specs.declared.operand.Operand.{Operand}
 use Rattle.core_terms.specs.Types.{Ty}
 use Rattle.core_terms.specs.Terms.{Program}
 use Rattle.value_store.specs.Nodes.{Node}
@@ -21,7 +22,7 @@ module _ (m : Marking) (P : Program) (z : Ty) (nodes : List Node) (state : State
   deep_in : (k n : ℕ) → k ≡ suc n → IsDeep false k cs.top → IsDeep true n cs.top
   deep_in k n e h = omega (arith, e, h)
 
-  pub entered_shows : (n : ℕ) → state.fuel ≡ suc n → Represents m P z nodes (record { fuel = n; entered = true; top = state.top; waiting = state.waiting; spares = state.spares }) cs
+  pub entered_shows : (n : ℕ) → state.fuel ≡ suc n → Represents m P z nodes (record { fuel = n; entered = true; top = state.top; waiting = state.waiting }) cs
   entered_shows n e = record {
     top = shows.top;
     waits = shows.waits;
@@ -57,13 +58,13 @@ module _ (m : Marking) (P : Program) (z : Ty) (nodes : List Node) (state : State
       let h = top_fits in
       omega (arith, times, h)
 
-  frames_same : (t : Ty) (fs : List Frame) (ws : List ValueFrame) → AreWaiting m P nodes z t fs ws → frames_left P fs ≡ all_left ws
-  frames_same t [] [] h = refl
-  frames_same t (f ∷ fs) (c ∷ ws) h = ap₂ (λ a b. a + b) (ap length (sym h.0.is.left)) (frames_same c.result fs ws h.1)
-  frames_same t [] (c ∷ ws) h = elim h [ ]
-  frames_same t (f ∷ fs) [] h = elim h [ ]
+  frames_same : (t : Ty) (ls os : List Operand) (fs : List Waiting) (ws : List ValueFrame) → AreWaiting m P nodes z t ls os fs ws → frames_left P fs ≡ all_left ws
+  frames_same t ls os [] [] h = refl
+  frames_same t ls os (f ∷ fs) (c ∷ ws) h = ap₂ (λ a b. a + b) (ap length (sym h.0.is.left)) (frames_same c.result (take f.local_base ls) (take f.operand_base os) fs ws h.1)
+  frames_same t ls os [] (c ∷ ws) h = elim h [ ]
+  frames_same t ls os (f ∷ fs) [] h = elim h [ ]
 
   -- the steps of a machine are those of what it shows
   pub steps_same : steps_left P state ≡ stack_steps P state.entered state.fuel cs
   steps_same = ap₂ (λ a b. state.fuel * (code_size (generated P).functions + 1) + (left_if state.entered a + b)) (ap length (sym shows.top.is.left))
-      (frames_same cs.top.result (reverse state.waiting.items) cs.waits shows.waits)
+      (frames_same cs.top.result state.top.locals.below state.top.operands.below (reverse state.waiting.items) cs.waits shows.waits)

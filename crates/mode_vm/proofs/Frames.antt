@@ -122,7 +122,7 @@ module _ (m : Marking) (P : Program) where
       → AllHeld (kind_of m P) P.types new (reverse works_on) os us
       → ((next : Next (CauseOf m) (StateOf m)) (k : ℕ) (w : StateOf m)
       → act (generated P) (mode_of m P) (calls c.depth) i next (tie c.local_types c.locals) (tie c.operand_types c.operands) k w ≡ next skip (tie ls vs) (tie os us) k w)
-      → GoesOn m P new c after
+      → GoesOn m P new frame c after
   goes_on nodes new frame after i c b skip has works_on ls os vs us at to locals operands same = (
     moved c b.next.rest skip ls os vs us,
     moved_top nodes new frame after i c b skip has works_on ls os vs us at to locals operands,
@@ -131,6 +131,7 @@ module _ (m : Marking) (P : Program) where
         ap (λ is. exec (generated P) (mode_of m P) (calls c.depth) is 0 (tie c.local_types c.locals) (tie c.operand_types c.operands) k w) b.next.is
         ∙ same (exec (generated P) (mode_of m P) (calls c.depth) b.next.rest) k w
         ∙ jump (CauseOf m) (StateOf m) (generated P) (mode_of m P) c.depth skip b.next.rest (tie ls vs) (tie os us) k w,
+    at.over,
   )
 
 pub held_keeps : (kind : Kind) (types : List (List (List Ty))) (old new : List Node) → Keeps old new → (o : Operand) (t : Ty) (v : Value) → IsHeld kind types old o t v → IsHeld kind types new o t v
@@ -162,7 +163,7 @@ module _ (m : Marking) (P : Program) (nodes new : List Node) (keeps : Keeps node
       → ((next : Next (CauseOf m) (StateOf m)) (k : ℕ) (w : StateOf m)
       → act (generated P) (mode_of m P) (calls m P c.depth) i next (tie c.local_types c.locals) (tie c.operand_types c.operands) k w ≡ next 0 (tie c.local_types c.locals)
       (tie (t ∷ os) (AndV v us)) k w)
-      → GoesOn m P new c after
+      → GoesOn m P new frame c after
   pushes kept r t v os us at to stands below same =
       let here : frame.place + 1 ≡ frame.place + 1 + 0 = omega arith in
       goes_on m P nodes new frame after i c b 0 frame.locals.items (kept ++ r ∷ []) c.local_types (t ∷ os) c.locals (AndV v us)

@@ -15,7 +15,7 @@ module _ (m : Marking) (P : Program) (z : Ty) (old new : List Node) (keeps : Kee
   shows_on : (cs : ValueStack) → Represents m P z old state cs → Represents m P z new state cs
   shows_on cs h = record {
     top = record { is = frame_keeps m P old new keeps state.top cs.top h.top.is; starts = h.top.starts };
-    waits = waits_keep m P old new keeps z cs.top.result (reverse state.waiting.items) cs.waits h.waits;
+    waits = waits_keep m P old new keeps z cs.top.result state.top.locals.below state.top.operands.below (reverse state.waiting.items) cs.waits h.waits;
     deep = h.deep;
     deep_below = h.deep_below;
   }

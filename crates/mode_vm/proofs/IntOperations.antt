@@ -39,7 +39,7 @@ module _ (m : Marking) (P : Program) (nodes : List Node) (frame : Frame) (op : A
   pub arith_acts : {E : Type 0} (new : List Node) → Keeps nodes new → (mid after : Frame) → IsAt frame frame.place frame.locals.items last mid → (made : Result Operand Trap)
       → ((x y : Value) → IsHeld (kind_of m P) P.types nodes first IntTy x → IsHeld (kind_of m P) P.types nodes second IntTy y
       → Makes m (kind_of m P) P.types new IntTy (arith_of op (int_in x) (int_in y)) made)
-      → (result : Result (Option Trap) E) → Finishes mid made after result → Acts m P new c after result
+      → (result : Result (Option Trap) E) → Finishes mid made after result → Acts m P new frame c after result
   arith_acts = two_acts m P nodes frame (ArithOp op) c b last first second top IntTy IntTy IntTy takes (λ x y. arith_of op (int_in x) (int_in y)) same
     where
       same : ActsOnTwo m P nodes frame (ArithOp op) c b last first second top IntTy IntTy IntTy takes (λ x y. arith_of op (int_in x) (int_in y))
@@ -61,7 +61,7 @@ module _ (m : Marking) (P : Program) (nodes : List Node) (frame : Frame) (op : C
   pub compare_acts : {E : Type 0} (new : List Node) → Keeps nodes new → (mid after : Frame) → IsAt frame frame.place frame.locals.items last mid
       → (r : Operand) (x y : ℤ) → ((v : Value) → IsHeld (kind_of m P) P.types nodes first IntTy v → v ≡ IntV x) → ((v : Value) → IsHeld (kind_of m P) P.types nodes second IntTy v → v ≡ IntV y)
       → IsHeld (kind_of m P) P.types new r BoolTy (BoolV (compare_of op x y))
-      → (result : Result (Option Trap) E) → Finishes mid (Ok r) after result → Acts m P new c after result
+      → (result : Result (Option Trap) E) → Finishes mid (Ok r) after result → Acts m P new frame c after result
   compare_acts new keeps mid after at r x y first_is second_is stands =
       two_acts m P nodes frame (CompareOp op) c b last first second top IntTy IntTy BoolTy compares run same new keeps mid after at (Ok r)
       (λ u v h j. (BoolV (compare_of op x y), stands, λ k w. ap₂ (λ u v. Gives (BoolV (compare_of op (int_in u) (int_in v))) k w) (first_is u h) (second_is v j)))

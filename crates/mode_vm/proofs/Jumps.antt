@@ -49,7 +49,7 @@ module _ (m : Marking) (P : Program) (nodes : List Node) (frame : Frame) (skip :
       let r = left_behind (code_at (generated P) frame.function.0).code frame.place (suc skip) d in
       omega (arith, r)
 
-  pub jumped : (after : Frame) → IsAt frame (frame.place + 1 + skip) frame.locals.items frame.operands.items after → GoesOn m P nodes c after
+  pub jumped : (after : Frame) → IsAt frame (frame.place + 1 + skip) frame.locals.items frame.operands.items after → GoesOn m P nodes frame c after
   jumped after at =
       goes_on m P nodes nodes frame after (Jump skip) c b skip frame.locals.items frame.operands.items c.local_types c.operand_types c.locals c.operands at
       (fits_next m P nodes frame (Jump skip) c b) b.top.is.locals b.top.is.operands (λ next k w. refl)

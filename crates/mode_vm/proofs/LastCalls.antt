@@ -24,7 +24,7 @@ use Rattle.mode_vm.specs.Outcomes.{GoesTo}
 use Rattle.mode_vm.specs.StateParts.{BeginsLast}
 use Rattle.mode_vm.specs.declared.state.State.{State}
 use Rattle.mode_vm.proofs.Frames.{ToNext, fits_first, fine_rest, drop_more, calls}
-use Rattle.mode_vm.proofs.Lifting.{mapped}
+use Rattle.mode_vm.proofs.Lifting.{mapped, waits_under}
 use Rattle.mode_vm.proofs.Binding.{tied_length}
 use Rattle.mode_vm.proofs.Calls.{Pushed, callee as Found, found, fine_here, called, caller, split, accepted, deep_called, same_end}
 
@@ -169,8 +169,9 @@ module _ (m : Marking) (P : Program) (typed : IsTyped P) (z : Ty) (nodes : List 
             };
             starts = (accepted m P typed z nodes old new f cs shows next entered args kept long begins.operands).2;
           };
-          waits = subst (λ l. AreWaiting m P nodes z (code_at B f).result (reverse l) cs.waits) (sym begins.waiting)
-              (subst (λ t. AreWaiting m P nodes z t (reverse old.waiting.items) cs.waits) (sym given.same) shows.waits);
+          waits = subst (λ l. AreWaiting m P nodes z (code_at B f).result new.top.locals.below new.top.operands.below (reverse l) cs.waits) (sym begins.waiting)
+              (subst (λ t. AreWaiting m P nodes z t new.top.locals.below new.top.operands.below (reverse old.waiting.items) cs.waits) (sym given.same)
+              (waits_under m P nodes nodes (λ kind types r t v h. h) z cs.top.result old.top new.top begins.over (reverse old.waiting.items) cs.waits shows.waits));
           deep = subst (λ b. IsDeep b new.fuel runs) (sym begins.entered)
               (subst (λ k. k ≤ suc (pred cs.top.depth)) (sym begins.fuel) (deep_called m P typed z nodes old new f cs shows next entered args kept long begins.operands));
           deep_below = subst (λ k. AreDeep k cs.waits) (sym begins.fuel) shows.deep_below;

@@ -1,11 +1,13 @@
--- Which functions the files serve. A frame that goes on behind an instruction, by its values:
+-- Which functions the files serve. The stacks, and begin_call:
+pub mod Topmost
+pub mod Stacking
+-- A frame that goes on behind an instruction, by its values:
 pub mod Scalars
 pub mod Frames
 pub mod Placing
 pub mod Operands
 pub mod Made
 pub mod Enough
-pub mod Topmost
 -- the literals and ints: an int that is passed
 pub mod PassedInts
 -- arith and compare; compare_texts, concat and length; pair, first and second

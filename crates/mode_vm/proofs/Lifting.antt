@@ -1,5 +1,5 @@
 -- What an instruction does to the running frame, it does to the machine.
-use Rattle.std.proofs.Common.{◌≡◌, ℕ, zero, suc, ◌<◌, ◌≤◌, true, List, [], ◌∷◌, length, drop, map, reverse, Option, Ok, Some, None, slice_get, slice_index_or, refl, sym, ap, ap₂, ◌∙◌, subst, arith}
+use Rattle.std.proofs.Common.{◌≡◌, ℕ, zero, suc, ◌<◌, ◌≤◌, true, List, [], ◌∷◌, length, take, drop, map, reverse, Option, Ok, Some, None, slice_get, slice_index_or, refl, sym, ap, ap₂, ◌∙◌, subst, arith}
 use Rattle.core_terms.specs.Types.{Ty}
 use Rattle.core_terms.specs.Terms.{Program}
 use Rattle.core_terms.specs.declared.outcome.Trap.{Trap}
@@ -16,7 +16,10 @@ use Rattle.value_store.specs.Markings.{Marking, kind_of}
 use Rattle.mode_vm.specs.Meanings.{mode_of}
 use Rattle.mode_vm.specs.Machines.{ValueFrame, ValueStack, stack_steps, waiting_of, runs_on, end_of, IsFrame, AreWaiting, AreDeep, IsDeep, Represents, IsNext}
 use Rattle.mode_vm.specs.Outcomes.{Acts, Leads, step_told}
+use Rattle.mode_vm.specs.StateParts.{IsOver, frame_in}
+use Rattle.mode_vm.specs.declared.operand.Operand.{Operand}
 use Rattle.mode_vm.specs.declared.frame.Frame.{Frame}
+use Rattle.mode_vm.specs.declared.frame.Waiting.{Waiting}
 use Rattle.mode_vm.specs.declared.state.State.{State}
 use Rattle.mode_vm.proofs.Frames.{all_keep}
 
@@ -31,22 +34,33 @@ module _ (m : Marking) (P : Program) (old new : List Node) (keeps : Keeps old ne
     operands = all_keep (kind_of m P) P.types old new keeps _ _ _ h.operands;
   }
 
-  pub waits_keep : (z t : Ty) (fs : List Frame) (cs : List ValueFrame) → AreWaiting m P old z t fs cs → AreWaiting m P new z t fs cs
-  waits_keep z t [] [] h = h
-  waits_keep z t (f ∷ fs) (c ∷ cs) h = (record { is = frame_keeps f c h.0.is; starts = h.0.starts }, waits_keep z c.result fs cs h.1)
-  waits_keep z t [] (c ∷ cs) h = elim h [ ]
-  waits_keep z t (f ∷ fs) [] h = elim h [ ]
+  pub waits_keep : (z t : Ty) (ls os : List Operand) (fs : List Waiting) (cs : List ValueFrame) → AreWaiting m P old z t ls os fs cs → AreWaiting m P new z t ls os fs cs
+  waits_keep z t ls os [] [] h = h
+  waits_keep z t ls os (f ∷ fs) (c ∷ cs) h = (
+    record { local_base = h.0.local_base; operand_base = h.0.operand_base; is = frame_keeps (frame_in f ls os) c h.0.is; starts = h.0.starts },
+    waits_keep z c.result (take f.local_base ls) (take f.operand_base os) fs cs h.1,
+  )
+  waits_keep z t ls os [] (c ∷ cs) h = elim h [ ]
+  waits_keep z t ls os (f ∷ fs) [] h = elim h [ ]
+
+  -- those that wait below another frame, where as much lies below it
+  pub waits_under : (z t : Ty) (before after : Frame) → IsOver before after → (fs : List Waiting) (cs : List ValueFrame)
+      → AreWaiting m P old z t before.locals.below before.operands.below fs cs → AreWaiting m P new z t after.locals.below after.operands.below fs cs
+  waits_under z t before after over fs cs h =
+      subst (λ l. AreWaiting m P new z t l after.operands.below fs cs) (sym over.locals)
+      (subst (λ l. AreWaiting m P new z t before.locals.below l fs cs) (sym over.operands) (waits_keep z t before.locals.below before.operands.below fs cs h))
 
   -- from the running frame to the machine
   pub lifted : (E : Type 0) (z : Ty) (before after : State) (cs : ValueStack) → Represents m P z old before cs → before.entered ≡ true → after.entered ≡ before.entered
       → after.fuel ≡ before.fuel → after.waiting ≡ before.waiting
-      → (trapped : Option Trap) → Acts m P new {E = E} cs.top after.top (Ok trapped) → Leads m P z new {E = E} true before.fuel cs after (Ok (step_told trapped))
+      → (trapped : Option Trap) → Acts m P new {E = E} before.top cs.top after.top (Ok trapped) → Leads m P z new {E = E} true before.fuel cs after (Ok (step_told trapped))
   lifted E z before after cs shows entered stays fuel waiting None acts = (
     record { top = acts.0; waits = cs.waits },
     record {
       top = acts.1;
-      waits = subst (λ t. AreWaiting m P new z t (reverse after.waiting.items) cs.waits) (sym acts.2.result)
-          (subst (λ v. AreWaiting m P new z cs.top.result (reverse v.items) cs.waits) (sym waiting) (waits_keep z cs.top.result (reverse before.waiting.items) cs.waits shows.waits));
+      waits = subst (λ t. AreWaiting m P new z t after.top.locals.below after.top.operands.below (reverse after.waiting.items) cs.waits) (sym acts.2.result)
+          (subst (λ v. AreWaiting m P new z cs.top.result after.top.locals.below after.top.operands.below (reverse v.items) cs.waits) (sym waiting)
+          (waits_under z cs.top.result before.top after.top acts.4 (reverse before.waiting.items) cs.waits shows.waits));
       deep = subst (λ b. IsDeep b after.fuel acts.0) (sym (stays ∙ entered))
           (subst (λ d. after.fuel ≤ d) (sym acts.2.depth) (subst (λ k. k ≤ cs.top.depth) (sym fuel) (subst (λ b. IsDeep b before.fuel cs.top) entered shows.deep)));
       deep_below = subst (λ k. AreDeep k cs.waits) (sym fuel) shows.deep_below;

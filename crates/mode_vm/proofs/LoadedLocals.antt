@@ -63,7 +63,7 @@ module _ (m : Marking) (P : Program) (nodes : List Node) (frame : Frame) (i : �
   local_there = short frame.locals.items i here.r here.there
 
   pub load_acts : {E : Type 0} (after : Frame) (r : Operand) → slice_get frame.locals.items i ≡ Some r → (result : Result (Option Trap) E) → Finishes frame (Ok r) after result
-      → Acts m P nodes c after result
+      → Acts m P nodes frame c after result
   load_acts after r is result finishes =
       let same : here.r ≡ r = some_same here.r r (sym here.there ∙ is) in
       made_acts m P nodes nodes (λ kind types r t v h. h) frame after (Load i) c b frame.operands.items found.0 c.operand_types c.operands (λ k w. Gives here.v k w)

@@ -44,6 +44,7 @@ module _ (frame mid after : Frame) (kept : List Operand) (popped : IsAt frame fr
     place = at.place ∙ ap (λ p. p + 1) popped.place;
     locals = at.locals ∙ popped.locals;
     operands = at.operands ∙ ap (λ l. l ++ r ∷ []) popped.operands;
+    over = record { locals = at.over.locals ∙ popped.over.locals; operands = at.over.operands ∙ popped.over.operands };
   }
 
   pub finishes_on : {E : Type 0} (made : Result Operand Trap) (result : Result (Option Trap) E) → Finishes mid made after result → FinishesOn frame kept made after result
@@ -61,7 +62,7 @@ module _ (m : Marking) (P : Program) (nodes new : List Node) (keeps : Keeps node
       ≡ then_code (run k w) (λ v k w. next 0 (tie c.local_types c.locals) (held t v ∷ tie ts us) k w)
 
   pub made_acts : {E : Type 0} → ActsAs → ToNext (generated P) c.result c.shapes 0 c.local_types (t ∷ ts) → AllHeld (kind_of m P) P.types nodes (reverse kept) ts us
-      → (made : Result Operand Trap) → Makes m (kind_of m P) P.types new t run made → (result : Result (Option Trap) E) → FinishesOn frame kept made after result → Acts m P new c after result
+      → (made : Result Operand Trap) → Makes m (kind_of m P) P.types new t run made → (result : Result (Option Trap) E) → FinishesOn frame kept made after result → Acts m P new frame c after result
   made_acts acts to below (Ok r) tells (Ok None) at =
       pushes m P nodes new keeps frame after i c b kept r t tells.0 ts us at to tells.1 below
       (λ next k w. acts next k w ∙ ap (λ r. then_code r (λ v k w. next 0 (tie c.local_types c.locals) (held t v ∷ tie ts us) k w)) (tells.2 k w))
@@ -100,7 +101,7 @@ module _ (m : Marking) (P : Program) (nodes : List Node) (frame : Frame) (i : In
   pub one_acts : {E : Type 0} (run : Value → ℕ → StateOf m → Run (CauseOf m) (StateOf m) Value) → ActsOnOne run
       → (new : List Node) → Keeps nodes new → (mid after : Frame) → IsAt frame frame.place frame.locals.items last mid → (made : Result Operand Trap)
       → ((x : Value) → IsHeld (kind_of m P) P.types nodes first t x → Makes m (kind_of m P) P.types new u (run x) made)
-      → (result : Result (Option Trap) E) → Finishes mid made after result → Acts m P new c after result
+      → (result : Result (Option Trap) E) → Finishes mid made after result → Acts m P new frame c after result
   one_acts run acts new keeps mid after at made makes result finishes =
       made_acts m P nodes new keeps frame after i c b last u takes.below on_one.below (run on_one.x)
       (λ next k w. acts_one next k w ∙ acts on_one.x on_one.stands next (tie c.local_types c.locals) (tie takes.below on_one.below) k w)
@@ -136,7 +137,7 @@ module _ (m : Marking) (P : Program) (nodes : List Node) (frame : Frame) (i : In
       → (new : List Node) → Keeps nodes new → (mid after : Frame) → IsAt frame frame.place frame.locals.items last mid → (made : Result Operand Trap)
       → ((x y : Value) → IsHeld (kind_of m P) P.types nodes first s x → IsHeld (kind_of m P) P.types nodes second t y
       → Makes m (kind_of m P) P.types new u (run x y) made)
-      → (result : Result (Option Trap) E) → Finishes mid made after result → Acts m P new c after result
+      → (result : Result (Option Trap) E) → Finishes mid made after result → Acts m P new frame c after result
   two_acts run acts new keeps mid after at made makes result finishes =
       made_acts m P nodes new keeps frame after i c b last u takes.below on_two.below (run on_two.x on_two.y)
       (λ next k w. acts_two next k w ∙ acts on_two.x on_two.y on_two.first_stands on_two.second_stands next (tie c.local_types c.locals) (tie takes.below on_two.below) k w)
@@ -171,7 +172,7 @@ module _ (m : Marking) (P : Program) (nodes : List Node) (frame : Frame) (i : In
       → (new : List Node) → Keeps nodes new → (mid after : Frame) → IsAt frame frame.place frame.locals.items last mid → (made : Result Operand Trap)
       → ((x y z : Value) → IsHeld (kind_of m P) P.types nodes first r x → IsHeld (kind_of m P) P.types nodes second s y
       → IsHeld (kind_of m P) P.types nodes third t z → Makes m (kind_of m P) P.types new u (run x y z) made)
-      → (result : Result (Option Trap) E) → Finishes mid made after result → Acts m P new c after result
+      → (result : Result (Option Trap) E) → Finishes mid made after result → Acts m P new frame c after result
   three_acts run acts new keeps mid after at made makes result finishes =
       made_acts m P nodes new keeps frame after i c b last u takes.below on_three.below (run on_three.x on_three.y on_three.z)
       (λ next k w. acts_three next k w

@@ -28,7 +28,7 @@ use Rattle.mode_vm.specs.declared.mode.Stop.TheVariants.{Mode as ModeStops, NoMe
 use Rattle.mode_vm.specs.declared.state.State.{State}
 use Rattle.mode_vm.proofs.Scalars.{IsNode, auth_node}
 use Rattle.mode_vm.proofs.Frames.{ToNext, fits_next, moved, moved_top, all_keep, reverse_push, calls}
-use Rattle.mode_vm.proofs.Lifting.{waits_keep}
+use Rattle.mode_vm.proofs.Lifting.{waits_under}
 
 module _ (kind : Kind) (types : List (List (List Ty))) (nodes : List Node) (B : Body) (z t : Ty) (ls : List Ty) (to : ℕ → List Ty → List Ty → Type 0) where
   -- the authenticated operand on the others
@@ -101,8 +101,8 @@ module _ (m : Marking) (P : Program) (z : Ty) (old new : List Node) (keeps : Kee
               (all_keep (kind_of m P) P.types old new keeps _ _ _ shows.top.is.locals)
               (subst (λ l. AllHeld (kind_of m P) P.types new l (t ∷ operand.below_types) (AndV y operand.below)) (sym (reverse_push kept (At r)))
               (stands, all_keep (kind_of m P) P.types old new keeps _ _ _ operand.others));
-          waits = subst (λ v. AreWaiting m P new z cs.top.result (reverse v.items) cs.waits) (sym others.waiting)
-              (waits_keep m P old new keeps z cs.top.result (reverse before.waiting.items) cs.waits shows.waits);
+          waits = subst (λ v. AreWaiting m P new z cs.top.result after.top.locals.below after.top.operands.below (reverse v.items) cs.waits) (sym others.waiting)
+              (waits_under m P old new keeps z cs.top.result before.top after.top at.over (reverse before.waiting.items) cs.waits shows.waits);
           deep = subst (λ b. IsDeep b after.fuel opened_cores.top) (sym (others.entered ∙ entered))
               (subst (λ k. k ≤ cs.top.depth) (sym others.fuel) (subst (λ b. IsDeep b before.fuel cs.top) entered shows.deep));
           deep_below = subst (λ k. AreDeep k cs.waits) (sym others.fuel) shows.deep_below;

@@ -37,7 +37,7 @@ module _ (m : Marking) (P : Program) (nodes : List Node) (frame : Frame) (c : Va
   pub pair_acts : {E : Type 0} (new : List Node) → Keeps nodes new → (mid after : Frame) → IsAt frame frame.place frame.locals.items last mid → (made : Result Operand Trap)
       → ((s t : Ty) (x y : Value) → IsHeld (kind_of m P) P.types nodes first s x → IsHeld (kind_of m P) P.types nodes second t y
       → Makes m (kind_of m P) P.types new (PairTy s t) (limited P.format.limit P.types (PairTy s t) (PairV x y)) made)
-      → (result : Result (Option Trap) E) → Finishes mid made after result → Acts m P new c after result
+      → (result : Result (Option Trap) E) → Finishes mid made after result → Acts m P new frame c after result
   pair_acts new keeps mid after at made makes =
       two_acts m P nodes frame Pair c b last first second top parts.0 parts.1 (PairTy parts.0 parts.1) parts.2
       (λ x y. limited P.format.limit P.types (PairTy parts.0 parts.1) (PairV x y)) (λ x y h j next env ops k w. refl) new keeps mid after at made (makes parts.0 parts.1)
@@ -55,7 +55,7 @@ module _ (m : Marking) (P : Program) (nodes : List Node) (frame : Frame) (c : Va
   pub first_acts : {E : Type 0} (mid after : Frame) → IsAt frame frame.place frame.locals.items last mid → (part : Operand)
       → ((s t : Ty) (v : Value) → IsHeld (kind_of m P) P.types nodes r (PairTy s t) v
       → (x : Value) × (y : Value) × (v ≡ PairV x y) × IsHeld (kind_of m P) P.types nodes part s x)
-      → (result : Result (Option Trap) E) → Finishes mid (Ok part) after result → Acts m P nodes c after result
+      → (result : Result (Option Trap) E) → Finishes mid (Ok part) after result → Acts m P nodes frame c after result
   first_acts mid after at part is =
       one_acts m P nodes frame Fst c b last r top (PairTy first_takes.0 first_takes.1) first_takes.0 first_takes.2 run same nodes (λ kind types r t v h. h) mid after at (Ok part)
       (λ v h. let p = is first_takes.0 first_takes.1 v h in (p.0, p.3, λ k w. ap (λ v. Gives (first_in v) k w) p.2))
@@ -79,7 +79,7 @@ module _ (m : Marking) (P : Program) (nodes : List Node) (frame : Frame) (c : Va
   pub second_acts : {E : Type 0} (mid after : Frame) → IsAt frame frame.place frame.locals.items last mid → (part : Operand)
       → ((s t : Ty) (v : Value) → IsHeld (kind_of m P) P.types nodes r (PairTy s t) v
       → (x : Value) × (y : Value) × (v ≡ PairV x y) × IsHeld (kind_of m P) P.types nodes part t y)
-      → (result : Result (Option Trap) E) → Finishes mid (Ok part) after result → Acts m P nodes c after result
+      → (result : Result (Option Trap) E) → Finishes mid (Ok part) after result → Acts m P nodes frame c after result
   second_acts mid after at part is =
       one_acts m P nodes frame Snd c b last r top (PairTy second_takes.0 second_takes.1) second_takes.1 second_takes.2 run same nodes (λ kind types r t v h. h) mid after at (Ok part)
       (λ v h. let p = is second_takes.0 second_takes.1 v h in (p.1, p.3, λ k w. ap (λ v. Gives (second_in v) k w) p.2))

@@ -119,7 +119,7 @@ module _ (m : Marking) (P : Program) (typed : IsTyped P) (f : ℕ) (there : f < 
       };
       starts = accepted.2;
     };
-    waits = subst (λ l. AreWaiting m P nodes (function_at P f).result (code_at B f).result (reverse l) []) (sym starts.nothing_waits) (signature_found P typed f).1;
+    waits = subst (λ l. AreWaiting m P nodes (function_at P f).result (code_at B f).result state.top.locals.below state.top.operands.below (reverse l) []) (sym starts.nothing_waits) (signature_found P typed f).1;
     deep = subst (λ b. IsDeep b state.fuel (values k)) (sym starts.entered) (subst (λ n. n ≤ suc (pred k)) (sym starts.fuel) (deep k));
     deep_below = tt;
   }

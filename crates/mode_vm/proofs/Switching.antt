@@ -122,7 +122,7 @@ module _ (m : Marking) (P : Program) (nodes : List Node) (frame : Frame) (number
   switch_within = skip_within m P nodes frame (Switch number places) c b apart.skip _ apart.goes
 
   pub switched : (after : Frame) (fields : List Ref) → numbers_of fields ≡ apart.fields → IsAt frame (frame.place + 1 + apart.skip) (frame.locals.items ++ all_at fields) kept after
-      → GoesOn m P nodes c after
+      → GoesOn m P nodes frame c after
   switched after fields same at =
       let ops = λ (os : List Ty) (us : Values). tie os us in
       goes_on m P nodes nodes frame after (Switch number places) c b apart.skip (frame.locals.items ++ all_at fields) kept (c.local_types ++ apart.field_types) apart.below_types

@@ -39,7 +39,7 @@ module _ (m : Marking) (P : Program) (nodes : List Node) (frame : Frame) (op : T
       → (r : Operand) (x y : List ℕ) → ((v : Value) → IsHeld (kind_of m P) P.types nodes first TextTy v → v ≡ TextV x)
       → ((v : Value) → IsHeld (kind_of m P) P.types nodes second TextTy v → v ≡ TextV y)
       → IsHeld (kind_of m P) P.types new r BoolTy (BoolV (text_compare_of op x y))
-      → (result : Result (Option Trap) E) → Finishes mid (Ok r) after result → Acts m P new c after result
+      → (result : Result (Option Trap) E) → Finishes mid (Ok r) after result → Acts m P new frame c after result
   compare_acts new keeps mid after at r x y first_is second_is stands =
       two_acts m P nodes frame (TextCompareOp op) c b last first second top TextTy TextTy BoolTy compares run same new keeps mid after at (Ok r)
       (λ u v h j. (BoolV (text_compare_of op x y), stands, λ k w. ap₂ (λ u v. Gives (BoolV (text_compare_of op (text_in u) (text_in v))) k w) (first_is u h) (second_is v j)))
@@ -66,7 +66,7 @@ module _ (m : Marking) (P : Program) (nodes : List Node) (frame : Frame) (c : Va
   pub concat_acts : {E : Type 0} (new : List Node) → Keeps nodes new → (mid after : Frame) → IsAt frame frame.place frame.locals.items last mid → (made : Result Operand Trap)
       → ((x y : Value) → IsHeld (kind_of m P) P.types nodes first TextTy x → IsHeld (kind_of m P) P.types nodes second TextTy y
       → Makes m (kind_of m P) P.types new TextTy (limited P.format.limit P.types TextTy (TextV (text_in x ++ text_in y))) made)
-      → (result : Result (Option Trap) E) → Finishes mid made after result → Acts m P new c after result
+      → (result : Result (Option Trap) E) → Finishes mid made after result → Acts m P new frame c after result
   concat_acts = two_acts m P nodes frame Cat c b last first second top TextTy TextTy TextTy joins (λ x y. limited P.format.limit P.types TextTy (TextV (text_in x ++ text_in y))) same
     where
       same : ActsOnTwo m P nodes frame Cat c b last first second top TextTy TextTy TextTy joins (λ x y. limited P.format.limit P.types TextTy (TextV (text_in x ++ text_in y)))
@@ -85,7 +85,7 @@ module _ (m : Marking) (P : Program) (nodes : List Node) (frame : Frame) (c : Va
   pub length_acts : {E : Type 0} (new : List Node) → Keeps nodes new → (mid after : Frame) → IsAt frame frame.place frame.locals.items last mid
       → (r : Operand) (bytes : List ℕ) → ((v : Value) → IsHeld (kind_of m P) P.types nodes first TextTy v → v ≡ TextV bytes)
       → IsHeld (kind_of m P) P.types new r IntTy (IntV (pos (length bytes)))
-      → (result : Result (Option Trap) E) → Finishes mid (Ok r) after result → Acts m P new c after result
+      → (result : Result (Option Trap) E) → Finishes mid (Ok r) after result → Acts m P new frame c after result
   length_acts new keeps mid after at r bytes is stands =
       one_acts m P nodes frame Len c b last first top TextTy IntTy counts run same new keeps mid after at (Ok r)
       (λ v h. (IntV (pos (length bytes)), stands, λ k w. ap (λ v. Gives (IntV (pos (length (text_in v)))) k w) (is v h)))

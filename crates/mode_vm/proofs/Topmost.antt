@@ -1,6 +1,6 @@
 -- The topmost operands, which stand at the end of a list.
-use Rattle.std.proofs.Common.{◌≡◌, ℕ, ◌-◌, ◌≤◌, List, ◌++◌, length, take, drop, sym, ap, ◌∙◌, arith, length-drop}
-use Rattle.std.proofs.lemmas.List.{take-append-drop, take_all}
+use Rattle.std.proofs.Common.{◌≡◌, ℕ, ◌-◌, ◌≤◌, List, ◌++◌, length, take, drop, sym, arith, length-drop}
+use Rattle.std.proofs.lemmas.List.{take-append-drop}
 
 module _ {A : Type 0} (xs : List A) (len count : ℕ) (is : len ≡ length xs) (enough : count ≤ length xs) where
   -- there are so many
@@ -10,10 +10,3 @@ module _ {A : Type 0} (xs : List A) (len count : ℕ) (is : len ≡ length xs) (
 -- they stand behind the others
 pub under_top : {A : Type 0} (xs : List A) (k : ℕ) → xs ≡ take k xs ++ drop k xs
 under_top xs k = sym (take-append-drop k xs)
-
--- lent as a part of what is lent, they are these
-pub top_lent : {A : Type 0} (lent xs : List A) (k : ℕ) → lent ≡ xs → take (length lent - k) (drop k lent) ≡ drop k xs
-top_lent lent xs k same =
-    let n = length-drop k lent in
-    let all : length (drop k lent) ≤ length lent - k = omega (arith, n) in
-    take_all (length lent - k) (drop k lent) all ∙ ap (drop k) same

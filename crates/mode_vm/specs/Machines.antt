@@ -1,5 +1,5 @@
 -- The state of the virtual machine, as that of the definitions.
-use Rattle.std.specs.Prelude.{◌≡◌, ℕ, zero, suc, ◌+◌, ◌*◌, ◌≤◌, ◌<◌, ◌^◌, Bool, true, false, List, [], ◌∷◌, length, drop, reverse, Some, slice_get}
+use Rattle.std.specs.Prelude.{◌≡◌, ℕ, zero, suc, ◌+◌, ◌*◌, ◌≤◌, ◌<◌, ◌^◌, Bool, true, false, List, [], ◌∷◌, length, take, drop, reverse, Some, slice_get}
 use Rattle.core_terms.specs.Types.{Ty}
 use Rattle.core_terms.specs.Values.{Values}
 use Rattle.core_terms.specs.Terms.{Program, function_at}
@@ -18,7 +18,10 @@ use Rattle.value_store.specs.CodeNodes.{numbers_of}
 use Rattle.value_store.specs.declared.node.Ref.{Ref}
 use Rattle.mode_vm.specs.Operands.{AllHeld}
 use Rattle.mode_vm.specs.Meanings.{CauseOf, StateOf, mode_of}
+use Rattle.mode_vm.specs.StateParts.{frame_in}
 use Rattle.mode_vm.specs.declared.frame.Frame.{Frame}
+use Rattle.mode_vm.specs.declared.frame.Waiting.{Waiting}
+use Rattle.mode_vm.specs.declared.operand.Operand.{Operand}
 use Rattle.mode_vm.specs.declared.state.State.{State}
 
 -- A frame by its values: how deep its calls may nest (never below the fuel, and no part of the machine), the instructions left with the
@@ -62,9 +65,9 @@ stack_steps P entered k cs = k * (code_size (generated P).functions + 1) + (left
 abbrev pub frame_left : Program → Frame → ℕ
 frame_left P frame = length (drop frame.place (code_at (generated P) frame.function.0).code)
 
-abbrev pub frames_left : Program → List Frame → ℕ
+abbrev pub frames_left : Program → List Waiting → ℕ
 frames_left P [] = 0
-frames_left P (f ∷ fs) = frame_left P f + frames_left P fs
+frames_left P (f ∷ fs) = length (drop f.place (code_at (generated P) f.function.0).code) + frames_left P fs
 
 abbrev pub steps_left : Program → State → ℕ
 steps_left P state = state.fuel * (code_size (generated P).functions + 1) + (left_if state.entered (frame_left P state.top) + frames_left P (reverse state.waiting.items))
@@ -108,16 +111,19 @@ module _ (m : Marking) (P : Program) where
       pub is : IsFrame frame c
       pub starts : slice_get c.shapes 0 ≡ Some (shape c.local_types c.operand_types)
 
-    -- the frame goes on with one operand more, of type t
-    pub record IsWaiting (t : Ty) (frame : Frame) (c : ValueFrame) : Type 0 where
-      pub is : IsFrame frame c
+    -- Over these locals and operands, which lie below the frames further in, the frame goes on with one operand more, of type t.
+    pub record IsWaiting (t : Ty) (locals operands : List Operand) (frame : Waiting) (c : ValueFrame) : Type 0 where
+      pub local_base : frame.local_base ≤ length locals
+      pub operand_base : frame.operand_base ≤ length operands
+      pub is : IsFrame (frame_in frame locals operands) c
       pub starts : slice_get c.shapes 0 ≡ Some (shape c.local_types (t ∷ c.operand_types))
 
-    -- the outermost of them gives a value of type z
-    abbrev pub AreWaiting : Ty → Ty → List Frame → List ValueFrame → Type 0
-    AreWaiting z t [] [] = t ≡ z
-    AreWaiting z t (f ∷ fs) (c ∷ cs) = IsWaiting t f c × AreWaiting z c.result fs cs
-    AreWaiting z t fs cs = ⊥
+    -- The frames that wait have these locals and operands: the innermost has those from its bases on, and those that wait for it have
+    -- what lies below. The outermost of them gives a value of type z.
+    abbrev pub AreWaiting : Ty → Ty → (locals operands : List Operand) → List Waiting → List ValueFrame → Type 0
+    AreWaiting z t ls os [] [] = t ≡ z
+    AreWaiting z t ls os (f ∷ fs) (c ∷ cs) = IsWaiting t ls os f c × AreWaiting z c.result (take f.local_base ls) (take f.operand_base os) fs cs
+    AreWaiting z t ls os fs cs = ⊥
 
 -- the fuel isn't above how deep calls may nest
 abbrev pub AreDeep : ℕ → List ValueFrame → Type 0
@@ -132,7 +138,7 @@ module _ (m : Marking) (P : Program) (z : Ty) (nodes : List Node) where
   -- the machine is in this state of the definitions, over these nodes, and will give a value of type z
   pub record Represents (state : State) (cs : ValueStack) : Type 0 where
     pub top : IsTop m P nodes state.top cs.top
-    pub waits : AreWaiting m P nodes z cs.top.result (reverse state.waiting.items) cs.waits
+    pub waits : AreWaiting m P nodes z cs.top.result state.top.locals.below state.top.operands.below (reverse state.waiting.items) cs.waits
     pub deep : IsDeep state.entered state.fuel cs.top
     pub deep_below : AreDeep state.fuel cs.waits
 

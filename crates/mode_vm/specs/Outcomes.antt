@@ -16,6 +16,7 @@ use Rattle.value_store.specs.Markings.{Marking, kind_of}
 use Rattle.value_store.specs.declared.node.Ref.{Ref}
 use Rattle.mode_vm.specs.Meanings.{StateOf}
 use Rattle.mode_vm.specs.Machines.{Before, ValueFrame, ValueStack, IsSameCall, stack_steps, IsTop, Represents, end_of, runs_on}
+use Rattle.mode_vm.specs.StateParts.{IsOver}
 use Rattle.mode_vm.specs.declared.frame.Frame.{Frame}
 use Rattle.mode_vm.specs.declared.state.State.{State}
 use Rattle.mode_vm.specs.declared.state.Step.{Step}
@@ -40,15 +41,16 @@ module _ (m : Marking) (P : Program) (z : Ty) (nodes : List Node) where
   Leads entered k cs new (Err e) = Unit {0}
 
 module _ (m : Marking) (P : Program) (nodes : List Node) where
-  -- the frame will end as it would have before
-  abbrev pub GoesOn : ValueFrame → Frame → Type 0
-  GoesOn c new = (after : ValueFrame) × IsTop m P nodes new after × IsSameCall c after × ((k : ℕ) (w : StateOf m) → runs_on m P c k w ≡ runs_on m P after k w)
+  -- the frame will end as it would have before, over the same frames that wait
+  abbrev pub GoesOn : Frame → ValueFrame → Frame → Type 0
+  GoesOn old c new =
+      (after : ValueFrame) × IsTop m P nodes new after × IsSameCall c after × ((k : ℕ) (w : StateOf m) → runs_on m P c k w ≡ runs_on m P after k w) × IsOver old new
 
   -- After an instruction that asks nothing of the mode the frame will end as it would have before, or it traps.
-  abbrev pub Acts : {E : Type 0} → ValueFrame → Frame → Result (Option Trap) E → Type 0
-  Acts c new (Ok None) = GoesOn c new
-  Acts c new (Ok (Some trap)) = (k : ℕ) (w : StateOf m) → runs_on m P c k w ≡ Ran (Ends (Traps (trap_told trap)) k w)
-  Acts c new (Err e) = Unit {0}
+  abbrev pub Acts : {E : Type 0} → Frame → ValueFrame → Frame → Result (Option Trap) E → Type 0
+  Acts old c new (Ok None) = GoesOn old c new
+  Acts old c new (Ok (Some trap)) = (k : ℕ) (w : StateOf m) → runs_on m P c k w ≡ Ran (Ends (Traps (trap_told trap)) k w)
+  Acts old c new (Err e) = Unit {0}
 
 abbrev pub step_told : Option Trap → Step
 step_told None = Paused
@@ -60,4 +62,4 @@ IsBefore P nodes frame i = (m : Marking) × (c : ValueFrame) × Before m P nodes
 
 -- What the instruction does to the frame, which had these nodes before and has the new ones then: in each mode what it means.
 abbrev pub Does : {E : Type 0} → Program → Instruction → (nodes new : List Node) → (frame after : Frame) → Result (Option Trap) E → Type 0
-Does P i nodes new frame after result = (m : Marking) (c : ValueFrame) → Before m P nodes frame i c → Acts m P new c after result
+Does P i nodes new frame after result = (m : Marking) (c : ValueFrame) → Before m P nodes frame i c → Acts m P new frame c after result

@@ -4,8 +4,19 @@ use Rattle.core_terms.specs.declared.outcome.Trap.{Trap}
 use Rattle.value_store.specs.declared.node.Ref.{Ref}
 use Rattle.mode_vm.specs.Operands.{all_at}
 use Rattle.mode_vm.specs.declared.operand.Operand.{Operand}
+use Rattle.mode_vm.specs.Stacks.{cut_at}
 use Rattle.mode_vm.specs.declared.frame.Frame.{Frame}
+use Rattle.mode_vm.specs.declared.frame.Waiting.{Waiting}
 use Rattle.mode_vm.specs.declared.state.State.{State}
+
+-- a frame that waits, where the frames further in have these locals and operands below them
+abbrev pub frame_in : Waiting → (locals operands : List Operand) → Frame
+frame_in w ls os = record { function = w.function; place = w.place; locals = cut_at w.local_base ls; operands = cut_at w.operand_base os }
+
+-- what lies below the frame is as before
+pub record IsOver (old new : Frame) : Type 0 where
+  pub locals : new.locals.below ≡ old.locals.below
+  pub operands : new.operands.below ≡ old.operands.below
 
 -- the frame of the same function at this place, with these locals and operands
 pub record IsAt (old : Frame) (at : ℕ) (has : List Operand) (works_on : List Operand) (new : Frame) : Type 0 where
@@ -13,6 +24,7 @@ pub record IsAt (old : Frame) (at : ℕ) (has : List Operand) (works_on : List O
   pub place : new.place ≡ at
   pub locals : new.locals.items ≡ has
   pub operands : new.operands.items ≡ works_on
+  pub over : IsOver old new
 
 -- the frame went one instruction further, with what was made on these operands; or it traps
 abbrev pub FinishesOn : {E : Type 0} → (old : Frame) (kept : List Operand) → Result Operand Trap → (new : Frame) → Result (Option Trap) E → Type 0
@@ -24,13 +36,6 @@ FinishesOn old kept made new (Ok o) = ⊥
 abbrev pub Finishes : {E : Type 0} → (old : Frame) → Result Operand Trap → (new : Frame) → Result (Option Trap) E → Type 0
 Finishes old = FinishesOn old old.operands.items
 
--- as many of the topmost operands were moved behind a list
-pub record IsMoved (count : ℕ) (operands has kept grown : List Operand) : Type 0 where
-  pub moved : List Operand
-  pub many : length moved ≡ count
-  pub from : operands ≡ kept ++ moved
-  pub to : grown ≡ has ++ moved
-
 -- the frame became that of a function which is called on as many of the topmost operands
 pub record BecomesCall (old : Frame) (callee count : ℕ) (new : Frame) : Type 0 where
   pub args : List Operand
@@ -41,6 +46,25 @@ pub record BecomesCall (old : Frame) (callee count : ℕ) (new : Frame) : Type 0
   pub place : new.place ≡ 0
   pub locals : new.locals.items ≡ args
   pub no_operands : new.operands.items ≡ []
+  pub over : IsOver old new
+
+-- the frame that waits under these locals and operands is the one from before, behind its call, with what was kept of its operands
+pub record Waits (old : Frame) (kept locals operands : List Operand) (caller : Waiting) : Type 0 where
+  pub is : IsAt old (old.place + 1) old.locals.items kept (frame_in caller locals operands)
+  pub local_base : caller.local_base ≤ length locals
+  pub operand_base : caller.operand_base ≤ length operands
+
+-- the frame became that of such a function, and waits below it, as this caller, for what it gives
+pub record BeginsCall (old : Frame) (callee count : ℕ) (caller : Waiting) (new : Frame) : Type 0 where
+  pub args : List Operand
+  pub kept : List Operand
+  pub many : length args ≡ count
+  pub from : old.operands.items ≡ kept ++ args
+  pub function : new.function.0 ≡ callee
+  pub place : new.place ≡ 0
+  pub locals : new.locals.items ≡ args
+  pub no_operands : new.operands.items ≡ []
+  pub waits : Waits old kept new.locals.below new.operands.below caller
 
 -- a call was begun: the running frame waits behind its call, and the function called runs from its beginning
 pub record Begins (old : State) (callee : ℕ) (args kept : List Operand) (new : State) : Type 0 where
@@ -51,9 +75,9 @@ pub record Begins (old : State) (callee : ℕ) (args kept : List Operand) (new :
   pub place : new.top.place ≡ 0
   pub locals : new.top.locals.items ≡ args
   pub no_operands : new.top.operands.items ≡ []
-  pub caller : Frame
+  pub caller : Waiting
   pub waiting : new.waiting.items ≡ old.waiting.items ++ caller ∷ []
-  pub waits : IsAt old.top (old.top.place + 1) old.top.locals.items kept caller
+  pub waits : Waits old.top kept new.top.locals.below new.top.operands.below caller
 
 -- a last call was begun: the function called runs from its beginning in the place of the running one
 pub record BeginsLast (old : State) (callee : ℕ) (args kept : List Operand) (new : State) : Type 0 where
@@ -64,6 +88,7 @@ pub record BeginsLast (old : State) (callee : ℕ) (args kept : List Operand) (n
   pub place : new.top.place ≡ 0
   pub locals : new.top.locals.items ≡ args
   pub no_operands : new.top.operands.items ≡ []
+  pub over : IsOver old.top new.top
   pub waiting : new.waiting.items ≡ old.waiting.items
 
 -- all but the running frame is as before

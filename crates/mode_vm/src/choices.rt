@@ -7,7 +7,7 @@ ghost use Rattle.code_gen.specs.Code.{generated};
 ghost use Rattle.mode_vm.specs.Meanings.{program_of};
 
 use crate::frame::Frame;
-use crate::operand::{Operand, node_in, push_nodes};
+use crate::operand::{Operand, node_in};
 use crate::values::bool_in;
 use code_gen::Code;
 use core_terms::{NamedId, Trap};
@@ -82,7 +82,7 @@ impl Frame {
         let top = self.pop();
         match store.view(node_in(top)) {
             View::Constructor(_, tag, fields) => {
-                push_nodes(&mut self.locals, fields)?;
+                self.locals.push_nodes(fields)?;
                 self.place = self.place + 1 + skips[usize::from(tag.0)];
                 Ok(None)
             }

@@ -92,9 +92,8 @@ impl Frame {
         ensures lent { N.lent store.new ≡ N.lent store.old }
     {
         let count = field_count(code.types(), named, tag);
-        let kept = self.operands.len() - count;
-        let fields = place_all(store, &self.operands[kept..])?;
-        self.operands.truncate(kept);
+        let fields = place_all(store, self.operands.topmost(count))?;
+        self.operands.drop_last(count);
         let made = new_constructor(store, named, tag, &fields)?;
         self.finish(made)
     }

@@ -10,25 +10,36 @@ ghost use Rattle.code_gen.specs.Programs.{program_in};
 ghost use Rattle.mode_vm.specs.Meanings.{program_of};
 
 use crate::operand::Operand;
+use crate::stack::Stack;
 use code_gen::Code;
 use core_terms::{FunctionId, Instruction, Trap};
 use std::alloc::AllocError;
 use value_store::Nodes;
 
-/// A function that runs or waits: the place of its next instruction, its locals and its operands, the top one last.
+/// The function that runs: the place of its next instruction, its locals and its operands. The functions that wait have theirs below
+/// these on the same two stacks. Locals and operands have a stack each, since a local is bound under operands that are there already.
 #[derive(Drop)]
 pub struct Frame {
     pub(crate) function: FunctionId,
     pub(crate) place: usize,
-    pub(crate) locals: Vec<Operand>,
-    pub(crate) operands: Vec<Operand>,
+    pub(crate) locals: Stack,
+    pub(crate) operands: Stack,
+}
+
+/// A function that waits for a value: the place of its next instruction, and where its locals and its operands begin.
+#[derive(Clone, Copy)]
+pub struct Waiting {
+    pub(crate) function: FunctionId,
+    pub(crate) place: usize,
+    pub(crate) local_base: usize,
+    pub(crate) operand_base: usize,
 }
 
 impl Frame {
     ghost use Rattle.mode_vm.specs.Machines.{is_own};
     ghost use Rattle.mode_vm.specs.NodesPut.{works_in_hand};
     ghost use Rattle.mode_vm.specs.Outcomes.{Does, IsBefore};
-    ghost use Rattle.mode_vm.specs.StateParts.{BecomesCall, Finishes, IsAt, IsMoved};
+    ghost use Rattle.mode_vm.specs.StateParts.{BecomesCall, BeginsCall, Finishes, IsAt, frame_in};
 
     /// Pushes what an instruction gives, and goes to the next one.
     pub(crate) fn push(&mut self, r: Operand) -> Result<(), AllocError>
@@ -46,10 +57,7 @@ impl Frame {
         ensures at { IsAt self.old self.old.place self.old.locals.items self.new.operands.items self.new }
         ensures top { self.old.operands.items ≡ self.new.operands.items ++ result ∷ [] }
     {
-        match self.operands.pop() {
-            Some(r) => r,
-            None => unreachable!(),
-        }
+        self.operands.pop()
     }
 
     /// Pops the two top operands.
@@ -74,34 +82,54 @@ impl Frame {
         (first, second, third)
     }
 
-    /// Moves as many of the topmost operands behind a list, the top one last.
-    pub(crate) fn pop_into(
+    /// Becomes the frame of another function, which is called on as many of the topmost operands. What is told is to go on behind the
+    /// call.
+    pub(crate) fn begin_call(
         &mut self,
+        callee: FunctionId,
         count: usize,
-        list: &mut Vec<Operand>,
-    ) -> Result<(), AllocError>
-        requires { count ≤ length self.old.operands.items }
-        ensures at { OnOk result (IsAt self.old self.old.place self.old.locals.items self.new.operands.items self.new) }
-        ensures moved { OnOk result (IsMoved count self.old.operands.items list.old.items self.new.operands.items list.new.items) }
+    ) -> Result<Waiting, AllocError>
+        requires enough { count ≤ length self.old.operands.items }
+        requires room { self.old.place + 1 < 2 ^ 64 }
+        ensures { IfOk result (λ caller. BeginsCall self.old callee.0 count caller self.new) }
     {
-        let kept = self.operands.len() - count;
-        list.extend_from_slice(&self.operands[kept..])?;
-        self.operands.truncate(kept);
-        Ok(())
+        let local_base = self.locals.enter();
+        self.operands.move_to(count, &mut self.locals)?;
+        let operand_base = self.operands.enter();
+        let caller = Waiting {
+            function: self.function,
+            place: self.place + 1,
+            local_base,
+            operand_base,
+        };
+        self.function = callee;
+        self.place = 0;
+        Ok(caller)
     }
 
-    /// Becomes the frame of another function, which is called on as many of the topmost operands.
+    /// Becomes the frame of another function, which is called on as many of the topmost operands, and for which this one doesn't wait.
     pub(crate) fn become_call(&mut self, callee: FunctionId, count: usize) -> Result<(), AllocError>
         requires { count ≤ length self.old.operands.items }
         ensures { OnOk result (BecomesCall self.old callee.0 count self.new) }
     {
-        let kept = self.operands.len() - count;
         self.locals.clear();
-        self.locals.extend_from_slice(&self.operands[kept..])?;
+        self.operands.move_to(count, &mut self.locals)?;
         self.operands.clear();
         self.function = callee;
         self.place = 0;
         Ok(())
+    }
+
+    /// Becomes the frame that waits, and drops what this one has.
+    pub(crate) fn resume(&mut self, caller: Waiting)
+        requires locals { caller.local_base ≤ length self.old.locals.below }
+        requires operands { caller.operand_base ≤ length self.old.operands.below }
+        ensures { self.new ≡ frame_in caller self.old.locals.below self.old.operands.below }
+    {
+        self.locals.leave(caller.local_base);
+        self.operands.leave(caller.operand_base);
+        self.function = caller.function;
+        self.place = caller.place;
     }
 
     /// Pushes what was made, and goes to the next instruction; or traps.

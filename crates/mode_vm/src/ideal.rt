@@ -76,8 +76,8 @@ impl Mode for IdealMode {
         v: Ref,
     ) -> Result<Ref, Stop<Never>> {
         match store.view(v) {
-            View::Auth(Held::Inner(inner)) => Ok(*inner),
-            View::Auth(Held::Both(_, inner)) => Ok(*inner),
+            View::Auth(Held::Inner(inner)) => Ok(inner),
+            View::Auth(Held::Both(_, inner)) => Ok(inner),
             _ => unreachable!(),
         }
     }

@@ -19,7 +19,7 @@ mod locals;
 pub mod machine;
 pub mod mode;
 mod operand;
-mod spares;
+mod stack;
 mod state;
 mod texts;
 mod values;

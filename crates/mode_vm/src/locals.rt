@@ -23,7 +23,7 @@ impl Frame {
         requires room { self.old.place + 1 < 2 ^ 64 }
         ensures does { Does (program_of code.now) (instruction.Load local.0) (N.nodes store.now) (N.nodes store.now) self.old self.new result }
     {
-        let r = self.locals[local.0];
+        let r = self.locals.at(local.0);
         self.finish(Ok(r))
     }
 
@@ -54,8 +54,7 @@ impl Frame {
         requires room { self.old.place + 1 < 2 ^ 64 }
         ensures does { Does (program_of code.now) (instruction.Unbind count) (N.nodes store.now) (N.nodes store.now) self.old self.new result }
     {
-        let kept = self.locals.len() - count;
-        self.locals.truncate(kept);
+        self.locals.drop_last(count);
         self.place += 1;
         Ok(None)
     }

@@ -25,7 +25,6 @@ use value_store::{Nodes, Ref};
 pub struct Machine<M> {
     mode: M,
     state: State,
-    alloc: Global,
 }
 
 impl<M: Mode> Machine<M> {
@@ -62,7 +61,7 @@ impl<M: Mode> Machine<M> {
         ensures few { IfOk result (λ machine. OpensFew (M.opened machine.mode) (program_of code.now) machine.state) }
     {
         let state = State::start(function, args, fuel, alloc)?;
-        Ok(Machine { mode, state, alloc })
+        Ok(Machine { mode, state })
     }
 
     /// Authenticates the top operand, by the mode.
@@ -183,7 +182,7 @@ impl<M: Mode> Machine<M> {
         match instruction {
             Instruction::Auth(ty) => self.auth(code, store, world, *ty),
             Instruction::Unauth(ty) => self.unauth(code, store, world, *ty),
-            _ => Ok(self.state.act(code, store, instruction, self.alloc)?),
+            _ => Ok(self.state.act(code, store, instruction)?),
         }
     }
 
@@ -278,11 +277,7 @@ impl<M: Mode> Machine<M> {
     pub fn into_mode(self) -> M
         ensures { result ≡ self.mode }
     {
-        let Machine {
-            mode,
-            state,
-            alloc: _,
-        } = self;
+        let Machine { mode, state } = self;
         drop(state);
         mode
     }

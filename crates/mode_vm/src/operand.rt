@@ -1,5 +1,5 @@
 // What an instruction works on: a scalar itself, or the node of a value.
-ghost use Rattle.std.specs.Prelude.{◌≡◌, ◌≤◌, ◌+◌, ◌++◌, List, IfOk, OnErr, OnOk, length};
+ghost use Rattle.std.specs.Prelude.{◌≡◌, ◌≤◌, ◌+◌, List, IfOk, OnErr, length};
 ghost use Rattle.core_terms.specs.Types.{Table, Ty};
 ghost use Rattle.core_terms.specs.Values.{Value, Values};
 ghost use Rattle.value_store.specs.CodeNodes.{numbers_of};
@@ -17,7 +17,7 @@ pub enum Operand {
     At(Ref),
 }
 
-ghost use Rattle.mode_vm.specs.Operands.{AllHeld, IsHeld, all_at};
+ghost use Rattle.mode_vm.specs.Operands.{AllHeld, IsHeld};
 ghost use Rattle.mode_vm.specs.declared.operand.Operand.TheVariants.{At};
 
 /// A node for an operand: that of one which has a node, and else one that is put.
@@ -46,16 +46,6 @@ pub(crate) fn node_in(operand: Operand) -> Ref
         Operand::At(r) => r,
         _ => unreachable!(),
     }
-}
-
-/// Puts nodes behind some operands.
-pub(crate) fn push_nodes(operands: &mut Vec<Operand>, nodes: &[Ref]) -> Result<(), AllocError>
-    ensures { OnOk result (operands.new.items ≡ operands.old.items ++ all_at nodes.now) }
-{
-    for r in nodes {
-        operands.push(Operand::At(*r))?;
-    }
-    Ok(())
 }
 
 /// Nodes for some operands.

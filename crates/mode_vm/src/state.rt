@@ -17,24 +17,22 @@ ghost use Rattle.mode_vm.specs.Meanings.{program_of};
 ghost use Rattle.mode_vm.specs.Outcomes.{step_told};
 ghost use Rattle.mode_vm.specs.declared.operand.Operand.{Operand};
 
-use crate::frame::Frame;
-use crate::operand::{Operand, place, push_nodes};
-use crate::spares::Spares;
+use crate::frame::{Frame, Waiting};
+use crate::operand::{Operand, place};
+use crate::stack::Stack;
 use code_gen::Code;
 use core_terms::{FunctionId, Instruction, Outcome, Trap};
 use std::alloc::{AllocError, Global};
-use std::mem;
 use value_store::{Nodes, Ref};
 
-/// Where the machine stands: the fuel left, the running frame, whether it has taken its unit of fuel, the frames that wait
-/// for a value, the innermost last, and memory of frames that ended.
+/// Where the machine stands: the fuel left, the running frame, whether it has taken its unit of fuel, and the frames that wait
+/// for a value, the innermost last.
 #[derive(Drop)]
 pub struct State {
     pub(crate) fuel: u64,
     pub(crate) entered: bool,
     top: Frame,
-    waiting: Vec<Frame>,
-    spares: Spares,
+    waiting: Vec<Waiting>,
 }
 
 /// What a part of a run comes to.
@@ -61,39 +59,29 @@ impl State {
     ) -> Result<State, AllocError>
         ensures { IfOk result (Starts function.0 args.now fuel) }
     {
-        let mut locals = Vec::new(alloc);
-        push_nodes(&mut locals, args)?;
+        let mut locals = Stack::new(alloc);
+        locals.push_nodes(args)?;
         let top = Frame {
             function,
             place: 0,
             locals,
-            operands: Vec::new(alloc),
+            operands: Stack::new(alloc),
         };
         Ok(State {
             fuel,
             entered: false,
             top,
             waiting: Vec::new(alloc),
-            spares: Spares::new(alloc),
         })
     }
 
     /// Begins a call of a function on as many operands.
-    fn begin(&mut self, callee: FunctionId, count: usize, alloc: Global) -> Result<(), AllocError>
+    fn begin(&mut self, callee: FunctionId, count: usize) -> Result<(), AllocError>
         requires enough { count ≤ length self.old.top.operands.items }
         requires room { self.old.top.place + 1 < 2 ^ 64 }
         ensures { IfOk result (λ done. (args : List Operand) × (kept : List Operand) × (length args ≡ count) × Begins self.old callee.0 args kept self.new) }
     {
-        let mut locals = self.spares.take(alloc);
-        self.top.pop_into(count, &mut locals)?;
-        self.top.place += 1;
-        let called = Frame {
-            function: callee,
-            place: 0,
-            locals,
-            operands: self.spares.take(alloc),
-        };
-        let caller = mem::replace(&mut self.top, called);
+        let caller = self.top.begin_call(callee, count)?;
         self.waiting.push(caller)?;
         self.entered = false;
         Ok(())
@@ -110,7 +98,7 @@ impl State {
     }
 
     /// Calls a function on the topmost operands. Where the caller would only give its value back, it doesn't wait for it.
-    fn call(&mut self, code: &Code, callee: FunctionId, alloc: Global) -> Result<Step, AllocError>
+    fn call(&mut self, code: &Code, callee: FunctionId) -> Result<Step, AllocError>
         requires before { (m : Marking) × (z : Ty) × (nodes : List Node) × (cs : ValueStack) × Represents m (program_of code.now) z nodes self.old cs × IsNext (instruction.Call callee.0) cs.top }
         requires entered { self.old.entered ≡ true }
         requires room { self.old.top.place + 1 < 2 ^ 64 }
@@ -122,7 +110,7 @@ impl State {
         if gives_back(code, self.top.function, self.top.place + 1) {
             self.begin_last(callee, count)?;
         } else {
-            self.begin(callee, count, alloc)?;
+            self.begin(callee, count)?;
         }
         Ok(Step::Paused)
     }
@@ -141,8 +129,7 @@ impl State {
         let top = self.top.pop();
         match self.waiting.pop() {
             Some(caller) => {
-                let ended = mem::replace(&mut self.top, caller);
-                self.spares.keep(ended);
+                self.top.resume(caller);
                 self.top.operands.push(top)?;
                 Ok(Step::Paused)
             }
@@ -217,7 +204,6 @@ impl State {
         code: &Code,
         store: &mut N,
         instruction: &Instruction,
-        alloc: Global,
     ) -> Result<Step, AllocError>
         requires before { (m : Marking) × (z : Ty) × (cs : ValueStack) × Represents m (program_of code.now) z (N.nodes store.old) self.old cs
             × IsNext (instruction_of (types_of (program_in code.now)) instruction.now) cs.top }
@@ -235,7 +221,7 @@ impl State {
         ensures lent { N.lent store.new ≡ N.lent store.old }
     {
         match instruction {
-            Instruction::Call(callee) => self.call(code, *callee, alloc),
+            Instruction::Call(callee) => self.call(code, *callee),
             Instruction::Return => self.give_back(code, store),
             _ => {
                 let trapped = self.top.act(code, store, instruction)?;

@@ -108,8 +108,8 @@ pub fn held_digest<N: Nodes>(store: &N, r: Ref) -> Digest
     ensures { (types : Table) (t : Ty) (x : Value) → StandsFor VerifierNodes types (N.nodes store.now) r.0 (AuthTy t) x → x ≡ DigestV result.0 }
 {
     match store.view(r) {
-        View::Auth(Held::Both(digest, _)) => *digest,
-        View::Auth(Held::Only(digest)) => *digest,
+        View::Auth(Held::Both(digest, _)) => digest,
+        View::Auth(Held::Only(digest)) => digest,
         _ => unreachable!(),
     }
 }

@@ -14,5 +14,6 @@ returns g c =
             place = ap (λ p. p + 1) at.place;
             locals = c.in_ok-push.ensures.items ∙ ap (λ l. l ++ c.pop-r.result ∷ []) at.locals;
             operands = refl;
+            over = record { locals = c.in_ok-push.ensures.below ∙ at.over.locals; operands = at.over.operands };
           });
     }

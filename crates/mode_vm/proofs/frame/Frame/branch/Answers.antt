@@ -21,7 +21,7 @@ returns-then-bool_in g c =
           let at = c.pop-r.ensures.at in
           branched m P (g.N.Nodes.nodes c.args.store.now) c.args.self.now c.args.skip values b c.pop-r.new.self.operands.items _ c.pop-r.ensures.top _
           (λ v h. c.bool_in.ensures (kind_of m P) P.types v h ∙ ap BoolV c.if-bool_in.true)
-          (record { function = at.function; place = ap (λ p. p + 1) at.place; locals = at.locals; operands = refl });
+          (record { function = at.function; place = ap (λ p. p + 1) at.place; locals = at.locals; operands = refl; over = record { locals = at.over.locals; operands = at.over.operands } });
     }
 
 pub returns : goal.returns
@@ -32,7 +32,7 @@ returns g c =
           let at = c.pop-r.ensures.at in
           skipped m P (g.N.Nodes.nodes c.args.store.now) c.args.self.now c.args.skip values b c.pop-r.new.self.operands.items _ c.pop-r.ensures.top _
           (λ v h. c.bool_in.ensures (kind_of m P) P.types v h ∙ ap BoolV c.if-bool_in.false)
-          (record { function = at.function; place = ap (λ p. p + 1 + c.args.skip) at.place; locals = at.locals; operands = refl });
+          (record { function = at.function; place = ap (λ p. p + 1 + c.args.skip) at.place; locals = at.locals; operands = refl; over = record { locals = at.over.locals; operands = at.over.operands } });
     }
 
 pub overflow_add-self-3 : goal.overflow_add-self-3

@@ -13,5 +13,5 @@ overflow_add-self-2 g c =
 pub returns : goal.returns
 returns g c = record {
   does = λ m values b. jumped m (program_of c.args.code.now) (g.N.Nodes.nodes c.args.store.now) c.args.self.now c.args.count values b _
-      (record { function = refl; place = refl; locals = refl; operands = refl });
+      (record { function = refl; place = refl; locals = refl; operands = refl; over = record { locals = refl; operands = refl } });
 }

@@ -55,7 +55,8 @@ returns g c = record {
       (record {
         function = c.pop-top.ensures.at.function;
         place = ap₂ (λ p n. p + 1 + n) c.pop-top.ensures.at.place is;
-        locals = c.in_ok-push_nodes-in-Constructor.ensures ∙ ap (λ l. l ++ all_at c.in-Constructor.fields.now) c.pop-top.ensures.at.locals;
+        locals = c.in_ok-push_nodes-in-Constructor.ensures.items ∙ ap (λ l. l ++ all_at c.in-Constructor.fields.now) c.pop-top.ensures.at.locals;
         operands = refl;
+        over = record { locals = c.in_ok-push_nodes-in-Constructor.ensures.below ∙ c.pop-top.ensures.at.over.locals; operands = c.pop-top.ensures.at.over.operands };
       });
 }

@@ -29,7 +29,7 @@ pub returns-in_ok-trapped-in_default : goal.returns-in_ok-trapped-in_default
 returns-in_ok-trapped-in_default g c = record {
   leads = λ m z cs shows next.
       let P = program_of c.args.code.now in
-      let after : State = record { fuel = c.args.self.now.fuel; entered = c.args.self.now.entered; top = c.act.new.self; waiting = c.args.self.now.waiting; spares = c.args.self.now.spares } in
+      let after : State = record { fuel = c.args.self.now.fuel; entered = c.args.self.now.entered; top = c.act.new.self; waiting = c.args.self.now.waiting } in
       subst (λ s. Leads m P z (g.N.Nodes.nodes c.act.new.store) {E = Unit {0}} true c.args.self.now.fuel cs after (Ok s)) (sym c.step_of.ensures)
       (lifted m P (g.N.Nodes.nodes c.args.store.now) (g.N.Nodes.nodes c.act.new.store) c.act.ensures.keeps
       (Unit {0}) z c.args.self.now after cs shows c.requires.entered refl refl refl c.in_ok-trapped-in_default.trapped

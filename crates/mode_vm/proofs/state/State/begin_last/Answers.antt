@@ -15,6 +15,7 @@ returns c =
         place = to.place;
         locals = to.locals;
         no_operands = to.no_operands;
+        over = to.over;
         waiting = refl;
       },
     )
