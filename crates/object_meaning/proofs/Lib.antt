@@ -6,6 +6,8 @@ pub mod KindsOfPrograms
 -- `objects_are_read_back`
 pub mod ReadersBack
 pub mod ObjectsBack
+-- `bytes_are_the_objects`
+pub mod OnlyObjects
 -- `objects_are_programs` and `objects_mean_the_same`
 pub mod ListedTypes
 pub mod ObjectCode
@@ -13,6 +15,7 @@ pub mod ObjectPrograms
 pub mod ObjectVerdicts
 -- `objects_are_accepted`
 pub mod ReadThere
+pub mod ReadWithin
 -- `programs_are_accepted`, and that its premises can be met
 pub mod RoleNames
 pub mod WrittenWell

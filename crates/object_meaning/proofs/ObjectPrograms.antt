@@ -6,7 +6,8 @@ use Rattle.core_terms.specs.Formats.{Format}
 use Rattle.core_terms.specs.Instructions as code
 use Rattle.core_terms.specs.Bodies.{Body, FunctionCode}
 use Rattle.core_terms.specs.Kinds.{kinds_test}
-use Rattle.core_terms.specs.Terms.{Function, Program, coded, body_of}
+use Rattle.core_terms.specs.Terms.{Kind, Inner, Init, Query, Update, Function, Program, coded, body_of}
+use Rattle.core_terms.specs.Roles.{is_entered}
 use Rattle.core_terms.specs.Typing.{is_typed, shape_test, all_shaped}
 use Rattle.core_terms.proofs.TypingComplete.{both}
 use Rattle.core_terms.proofs.TypingSound.{typed_sound}
@@ -19,7 +20,7 @@ use Rattle.code_gen.specs.Code.{function_code}
 use Rattle.object_meaning.specs.Objects.{ListedType, ListedFunction, Object}
 use Rattle.object_meaning.specs.Accepting.{shape_fault_from}
 use Rattle.object_meaning.specs.ClosedPrograms.{FunctionsAreClosed}
-use Rattle.object_meaning.specs.ObjectBodies.{object_format, listed_at, trees_of, named_tables, function_in, declared_in, code_in, body_in, program_in}
+use Rattle.object_meaning.specs.ObjectBodies.{object_format, listed_at, trees_of, named_tables, function_in, name_declared, declared_in, code_in, body_in, program_in}
 use Rattle.object_meaning.specs.ObjectLaws.{declared, ObjectsAreBodies, ObjectsArePrograms, ObjectsMeanTheSame, ObjectsAreSound}
 use Rattle.object_meaning.specs.ReadObjects.{object_read}
 use Rattle.object_meaning.specs.WrittenObjects.{number_in, type_written, function_written, types_written, object_of}
@@ -44,13 +45,22 @@ pub objects_are_bodies : ObjectsAreBodies
 objects_are_bodies o = body_is o
 
 -- OBJECTS OF PROGRAMS
+-- the name of a role is written, and no other one
+name_back : (kind : Kind) (name : List ℕ) → name_declared kind (if is_entered kind then name else []) ≡ name_declared kind name
+name_back Inner name = refl
+name_back Init name = refl
+name_back Query name = refl
+name_back Update name = refl
+
 module _ (table : Table) (names : List (List (List ℕ))) (types : List Ty) (listing : Listing table types) where
   declared_back : (fs : List Function) → FunctionsIn table types (map (function_code table) fs) → map (declared_in types) (map (function_written types table) fs) ≡ map declared fs
   declared_back [] a = refl
   declared_back (f ∷ fs) a =
       let g = declared f in
+      let h = declared_in types (function_written types table f) in
       ap₂ (λ y ys. y ∷ ys)
-      (ap₂ (λ ps r. record { name = g.name; kind = g.kind; parameters = ps; result = r; body = g.body }) (numbers_back table names types f.parameters a.0.parameters) (number_found types f.result a.0.result))
+      (ap (λ name. record { name = name; kind = h.kind; parameters = h.parameters; result = h.result; body = h.body }) (name_back f.kind f.name)
+      ∙ ap₂ (λ ps r. record { name = g.name; kind = g.kind; parameters = ps; result = r; body = g.body }) (numbers_back table names types f.parameters a.0.parameters) (number_found types f.result a.0.result))
       (declared_back fs a.1)
 
   codes_back : (fs : List Function) → FunctionsIn table types (map (function_code table) fs) → FunctionsAreClosed (length table) (map (function_code table) fs)

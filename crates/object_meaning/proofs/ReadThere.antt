@@ -23,14 +23,17 @@ use Rattle.object_meaning.specs.ObjectLaws.{ObjectsAreAccepted}
 use Rattle.core_terms.proofs.KindsSound.{kinds_sound}
 
 -- What was taken: a first part, and what goes on behind it.
-taken_then : {A B : Type 0} (Q : Type 0) (t : Taken A) (go : A → Reader B) (b : B) (rest : List ℕ) (p : ℕ) → then_take t go ≡ Takes b rest p
+pub taken_then : {A B : Type 0} (Q : Type 0) (t : Taken A) (go : A → Reader B) (b : B) (rest : List ℕ) (p : ℕ) → then_take t go ≡ Takes b rest p
     → ((a : A) (r : List ℕ) (q : ℕ) → t ≡ Takes a r q → go a r q ≡ Takes b rest p → Q) → Q
 taken_then Q (Takes a r q) go b rest p e f = f a r q refl e
 taken_then Q CutShort go b rest p e f = absurd (cc)
 taken_then Q (BadAt o) go b rest p e f = absurd (cc)
 
-taken_is : {A : Type 0} (a b : A) (r s : List ℕ) (p q : ℕ) → Takes a r p ≡ Takes b s q → a ≡ b
+pub taken_is : {A : Type 0} (a b : A) (r s : List ℕ) (p q : ℕ) → Takes a r p ≡ Takes b s q → a ≡ b
 taken_is a b r s p q e = cc
+
+pub taken_rest : {A : Type 0} (a b : A) (r s : List ℕ) (p q : ℕ) → Takes a r p ≡ Takes b s q → r ≡ s
+taken_rest a b r s p q e = cc
 
 taken_by : {A B : Type 0} (Q : B → Type 0) (h : A → B) (t : Taken A) (b : B) (rest : List ℕ) (p : ℕ) → taken_as h t ≡ Takes b rest p → ((a : A) (r : List ℕ) (q : ℕ) → t ≡ Takes a r q → Q (h a)) → Q b
 taken_by Q h t b rest p e f = taken_then (Q b) t (λ a rest place. Takes (h a) rest place) b rest p e (λ a r q t g. subst Q (taken_is (h a) b r rest q p g) (f a r q t))
@@ -57,9 +60,12 @@ text_passes offset n test bytes place x rest p e = by (nat_lt (length bytes) n) 
     by false l false t e = absurd (cc (e))
 
 -- of all that was taken
-abbrev AllOf : {A : Type 0} → (A → Type 0) → List A → Type 0
+abbrev pub AllOf : {A : Type 0} → (A → Type 0) → List A → Type 0
 AllOf Q [] = Unit {0}
 AllOf Q (a ∷ rest) = Q a × AllOf Q rest
+
+abbrev pub Anything : {A : Type 0} → A → Type 0
+Anything a = Unit {0}
 
 abbrev Gives : {A : Type 0} → (A → Type 0) → Reader A → Type 0
 Gives {A} Q read = (bytes : List ℕ) (place : ℕ) (a : A) (rest : List ℕ) (p : ℕ) → read bytes place ≡ Takes a rest p → Q a
@@ -70,7 +76,7 @@ times_give Q one g i (suc n) bytes place items rest p e =
     taken_then (AllOf Q items) (one i bytes place) (λ a bytes place. taken_as (λ more. a ∷ more) (times_from (suc i) n one bytes place)) items rest p e (λ a r q t h.
     taken_by (AllOf Q) (λ more. a ∷ more) (times_from (suc i) n one r q) items rest p h (λ more s u k. (g i bytes place a r q t, times_give Q one g (suc i) n r q more s u k)))
 
-all_append : {A : Type 0} (Q : A → Type 0) (xs : List A) (a : A) → AllOf Q xs → Q a → AllOf Q (xs ++ a ∷ [])
+pub all_append : {A : Type 0} (Q : A → Type 0) (xs : List A) (a : A) → AllOf Q xs → Q a → AllOf Q (xs ++ a ∷ [])
 all_append Q [] a h q = (q, tt)
 all_append Q (x ∷ xs) a h q = (h.0, all_append Q xs a h.1 q)
 
@@ -107,9 +113,16 @@ There functions (PushText bytes) = IsUtf8 bytes × (length bytes ≤ 65532)
 There functions (Call f) = f < functions
 There functions x = Unit {0}
 
-second_of : (a b : Bool) → a && b ≡ true → b ≡ true
+pub first_of : (a b : Bool) → a && b ≡ true → a ≡ true
+first_of true b e = refl
+first_of false b e = e
+
+pub second_of : (a b : Bool) → a && b ≡ true → b ≡ true
 second_of true b e = e
 second_of false b e = cc
+
+pub within_most : (least most n : ℕ) → within least most n ≡ true → n ≤ most
+within_most least most n e = leb-true n most (second_of (nat_le least n) (nat_le n most) e)
 
 int_there : (functions : ℕ) → Gives (There functions) int_read
 int_there functions bytes place x rest p e =
@@ -120,7 +133,7 @@ text_there functions bytes place x rest p e =
     taken_then (There functions x) (u32 (within 0 65532) bytes place) (λ n bytes behind. taken_as PushText (text_behind place is_utf8 n bytes behind)) x rest p e (λ n r q t h.
     taken_by (There functions) PushText (text_behind place is_utf8 n r q) x rest p h (λ text s u k.
     let passes = text_passes place n is_utf8 r q text s u k in
-    let few : n ≤ 65532 = leb-true n 65532 (second_of (nat_le 0 n) (nat_le n 65532) (field_passes 4 (from_be_bytes w32) (within 0 65532) bytes place n r q t)) in
+    let few : n ≤ 65532 = within_most 0 65532 n (field_passes 4 (from_be_bytes w32) (within 0 65532) bytes place n r q t) in
     (IsUtf8-from_is_utf8 text passes.0, omega (arith, passes.1, few))))
 
 call_there : (functions : ℕ) → Gives (There functions) (λ bytes place. taken_as Call (u16 (λ f. nat_lt f functions) bytes place))

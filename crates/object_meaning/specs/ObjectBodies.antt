@@ -1,8 +1,9 @@
 -- What an object is as code: its types as trees, and its functions with the code that they run.
-use Rattle.std.specs.Prelude.{ℕ, suc, ◌+◌, ◌-◌, List, [], ◌∷◌, ◌++◌, map, Some, slice_index_or}
+use Rattle.std.specs.Prelude.{ℕ, suc, ◌+◌, ◌-◌, List, [], ◌∷◌, ◌++◌, codes, map, Some, slice_index_or, if◌then◌else◌}
 use Rattle.core_terms.specs.Types.{Ty, UnitTy, BoolTy, IntTy, TextTy, PairTy, NamedTy, AuthTy, Table}
 use Rattle.core_terms.specs.Formats.{Format, first_format}
 use Rattle.core_terms.specs.ProgramFormats.{most_kept_pieces}
+use Rattle.core_terms.specs.Roles.{is_entered}
 use Rattle.core_terms.specs.Terms as tree
 use Rattle.core_terms.specs.Instructions as code
 use Rattle.core_terms.specs.Bodies.{Body, FunctionCode}
@@ -100,11 +101,16 @@ body_in o =
     let trees = trees_of o.types in
     record { limit = object_format.limit; types = named_tables trees o.types; functions = map (function_in trees) o.functions }
 
+-- The name of a function in the program of an object. A function that is no role has none in the object, and each function of a program has
+-- one: it is named `fun`. That is a keyword, so no role has this name; and by their names roles alone are found.
+abbrev pub name_declared : tree.Kind → List ℕ → List ℕ
+name_declared kind name = if is_entered kind then name else codes "fun"
+
 -- The object as a program of the definitions, which is compiled: its functions are declared, without bodies, and each has its code. All that
 -- is said of programs (meanings, verdicts, sessions) is said of an object by this one.
 abbrev pub declared_in : List Ty → ListedFunction → tree.Function
 declared_in trees f =
-    record { name = f.name; kind = f.kind; parameters = map (listed_at trees) f.parameters; result = listed_at trees f.result; body = tree.UnitE }
+    record { name = name_declared f.kind f.name; kind = f.kind; parameters = map (listed_at trees) f.parameters; result = listed_at trees f.result; body = tree.UnitE }
 
 abbrev pub code_in : List Ty → ListedFunction → List code.Instruction
 code_in trees f = code_from trees 0 f.code

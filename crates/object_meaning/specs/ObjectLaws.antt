@@ -1,8 +1,9 @@
 -- The laws of objects.
-use Rattle.std.specs.Prelude.{◌≡◌, ℕ, true, List, [], length, map, Some, None}
+use Rattle.std.specs.Prelude.{◌≡◌, ◌≤◌, ℕ, true, List, [], length, map, All, Some, None}
 use Rattle.core_terms.specs.Formats.{Hash, IsFormat}
 use Rattle.core_terms.specs.Bodies.{FunctionCode}
 use Rattle.core_terms.specs.Accepted.{IsAccepted}
+use Rattle.core_terms.specs.ProgramLimits.{IsName, IsWithinLimits}
 use Rattle.core_terms.specs.Roles.{IsRole, ReadsState}
 use Rattle.core_terms.specs.Spelling.{AreBytes}
 use Rattle.core_terms.specs.Terms.{Kind, Function, Program, UnitE, IsTyped, function_at}
@@ -16,17 +17,21 @@ use Rattle.code_gen.specs.Code.{generated, written_body}
 use Rattle.object_meaning.specs.Accepting.{Accepts, accepting}
 use Rattle.object_meaning.specs.ClosedPrograms.{IsClosedProgram}
 use Rattle.object_meaning.specs.EmittablePrograms.{IsEmittable}
-use Rattle.object_meaning.specs.ObjectBodies.{object_format, body_in, program_in}
+use Rattle.object_meaning.specs.ObjectBodies.{object_format, constructor_names, body_in, name_declared, program_in}
 use Rattle.object_meaning.specs.ObjectBytes.{object_bytes}
-use Rattle.object_meaning.specs.Objects.{Object}
+use Rattle.object_meaning.specs.Objects.{Object, most_object_bytes}
 use Rattle.object_meaning.specs.ReadObjects.{object_read}
 use Rattle.object_meaning.specs.Readers.{Takes}
 use Rattle.object_meaning.specs.WellFormedObjects.{IsObject}
-use Rattle.object_meaning.specs.WrittenObjects.{codes_in, name_written, object_of, written}
+use Rattle.object_meaning.specs.WrittenObjects.{codes_in, object_of, written}
 
 -- The bytes of a well-formed object are read as it, with nothing behind it.
 abbrev pub ObjectsAreReadBack : Type 0
 ObjectsAreReadBack = (o : Object) → IsObject o → object_read (object_bytes o) 0 ≡ Takes o [] (length (object_bytes o))
+
+-- And no other bytes are: those that are read as an object, with nothing behind it, are its bytes.
+abbrev pub BytesAreTheObjects : Type 0
+BytesAreTheObjects = (bytes : List ℕ) (place : ℕ) (o : Object) → AreBytes bytes → object_read bytes 0 ≡ Takes o [] place → bytes ≡ object_bytes o
 
 -- The code that the program of an object runs is the object as code.
 abbrev pub ObjectsAreBodies : Type 0
@@ -36,9 +41,10 @@ ObjectsAreBodies = (o : Object) → generated (program_in o) ≡ body_in o
 abbrev pub ObjectsAreCode : Type 0
 ObjectsAreCode = (P : Program) (names : List (List (List ℕ))) → P.format.limit ≡ object_format.limit → IsClosedProgram P → body_in (object_of P names) ≡ written_body P
 
--- A written program with its code in the place of its bodies. Names are those of its roles alone: by them it is called from outside.
+-- A written program with its code in the place of its bodies. Names are those of its roles alone: by them it is called from outside. Each
+-- other function is named `fun`.
 abbrev pub declared : Function → Function
-declared f = record { name = name_written f; kind = f.kind; parameters = f.parameters; result = f.result; body = UnitE }
+declared f = record { name = name_declared f.kind f.name; kind = f.kind; parameters = f.parameters; result = f.result; body = UnitE }
 
 abbrev pub compiled : Program → Program
 compiled P = record {
@@ -88,6 +94,14 @@ pub record IsSoundProgram (P : Program) : Type 0 where
 
 abbrev pub ObjectsAreSound : Type 0
 ObjectsAreSound = (bytes : List ℕ) (o : Object) → accepting bytes ≡ Accepts o → IsSoundProgram (program_in o)
+
+-- It is within the limits of compiled programs, where there are no more bytes than an object may have:
+abbrev pub ObjectsAreWithin : Type 0
+ObjectsAreWithin = (bytes : List ℕ) (o : Object) → length bytes ≤ most_object_bytes → accepting bytes ≡ Accepts o → IsWithinLimits (program_in o)
+
+-- and each of its constructors has a name. A named type has none in an object: what holds the program chooses one.
+abbrev pub ConstructorsHaveNames : Type 0
+ConstructorsHaveNames = (bytes : List ℕ) (o : Object) → accepting bytes ≡ Accepts o → All (All IsName) (constructor_names o.types)
 
 -- What is written of a program is accepted, as the object that it is.
 abbrev pub ProgramsAreAccepted : Type 0

@@ -110,6 +110,10 @@ inner_name = refl
 pub keyword_name : accepting (header_bytes ++ (2 ∷ 3 ∷ 0x6C ∷ 0x65 ∷ 0x74 ∷ [])) ≡ FirstFault (BadField 21)
 keyword_name = refl
 
+-- no role can be named as the functions are that are none
+pub fun_name : accepting (header_bytes ++ (2 ∷ 3 ∷ 0x66 ∷ 0x75 ∷ 0x6E ∷ [])) ≡ FirstFault (BadField 21)
+fun_name = refl
+
 -- `vec` is a name: what is cut is the number of parameters behind it
 pub array_word_is_name : accepting (header_bytes ++ (2 ∷ 3 ∷ 0x76 ∷ 0x65 ∷ 0x63 ∷ [])) ≡ FirstFault (Cut 25)
 array_word_is_name = refl

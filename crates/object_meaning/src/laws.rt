@@ -1,6 +1,6 @@
 //! The laws of objects, in `specs/`: each is the contract of a function that does nothing.
 ghost use Rattle.object_meaning.specs.KindLaws.{KindsAreAccepted, ProgramsHaveKinds};
-ghost use Rattle.object_meaning.specs.ObjectLaws.{ObjectsAreAccepted, ObjectsAreBodies, ObjectsAreCode, ObjectsArePrograms, ObjectsAreReadBack, ObjectsAreSound, ObjectsDoTheSame, ObjectsMeanTheSame, ProgramsAreAccepted, VerdictsAreTheSame};
+ghost use Rattle.object_meaning.specs.ObjectLaws.{BytesAreTheObjects, ConstructorsHaveNames, ObjectsAreAccepted, ObjectsAreBodies, ObjectsAreCode, ObjectsArePrograms, ObjectsAreReadBack, ObjectsAreSound, ObjectsAreWithin, ObjectsDoTheSame, ObjectsMeanTheSame, ProgramsAreAccepted, VerdictsAreTheSame};
 
 /// Code that passes the test of kinds is accepted.
 pub fn kinds_are_accepted()
@@ -15,6 +15,11 @@ pub fn programs_have_kinds()
 /// The bytes of a well-formed object are read as this object.
 pub fn objects_are_read_back()
     ensures { ObjectsAreReadBack }
+{}
+
+/// No other bytes are read as an object: it has one form in bytes.
+pub fn bytes_are_the_objects()
+    ensures { BytesAreTheObjects }
 {}
 
 /// An object is a compiled program. `bodies` says that the program of an object runs the object's code.
@@ -36,10 +41,14 @@ pub fn objects_mean_the_same()
 {}
 
 /// What is accepted of bytes is accepted code, never stuck in any mode; and a well-typed program whose roles have their shapes, so that
-/// the headline, its companion and the laws of sessions hold of it.
+/// the headline, its companion and the laws of sessions hold of it. Where there are no more bytes
+/// than an object may have, it is within the limits of compiled programs; and each constructor has a name. So `Program::compiled` can hold
+/// it, with names of its own for the named types.
 pub fn objects_are_accepted()
     ensures code { ObjectsAreAccepted }
     ensures program { ObjectsAreSound }
+    ensures limits { ObjectsAreWithin }
+    ensures names { ConstructorsHaveNames }
 {}
 
 /// What is written of a program is accepted, as the object that it is. The program is one whose object the limits allow, as each

@@ -139,8 +139,9 @@ fn array_keyword(format: Format, word: &[u8]) -> Option<Keyword>
     }
 }
 
+/// The keyword of a format that a word is, where it is one.
 #[tactic(auto, using(crate::proofs::WordLemmas::common_missed))]
-fn keyword_of(format: Format, word: &[u8]) -> Option<Keyword>
+pub fn keyword_of(format: Format, word: &[u8]) -> Option<Keyword>
     ensures { result ≡ keyword_of format word.now }
 {
     match common_keyword(word) {
