@@ -1,0 +1,28 @@
+-- Lists of types as types.
+use Rattle.std.specs.Prelude.{◌≡◌, List, [], ◌∷◌, ◌++◌, Option, Some, None, slice_get}
+use Rattle.core_terms.specs.Types.{Ty, UnitTy, PairTy}
+use Rattle.core_terms.specs.declared.types.TyId.{TyId}
+use Rattle.code_check.specs.declared.lists.Top.{Top}
+
+abbrev pub list_of : List Ty → Ty
+list_of [] = UnitTy
+list_of (t ∷ ts) = PairTy t (list_of ts)
+
+-- the type with this number is this list
+abbrev pub IsList : List Ty → TyId → List Ty → Type 0
+IsList types id ts = slice_get types id.0 ≡ Some (list_of ts)
+
+-- a list's first type and the others, by their numbers
+abbrev pub IsTop : List Ty → List Ty → Option Top → Type 0
+IsTop types [] None = Unit {0}
+IsTop types (t ∷ ts) (Some top) = (slice_get types top.first.0 ≡ Some t) × IsList types top.others ts
+IsTop types ts top = ⊥
+
+abbrev pub IsThere : List Ty → Option Ty → Option TyId → Type 0
+IsThere types None None = Unit {0}
+IsThere types (Some t) (Some id) = slice_get types id.0 ≡ Some t
+IsThere types t id = ⊥
+
+-- the second has more behind the first
+abbrev pub Grows : List Ty → List Ty → Type 0
+Grows old new = (more : List Ty) × (new ≡ old ++ more)
