@@ -98,11 +98,11 @@ fn a_compiled_call_is_proved(rt: HostRuntime) -> Result<(), Fail> {
     Ok(())
 }
 
-/// Whether two outcomes are one.
+/// Whether two outcomes are one. No call of the tests below traps.
 fn is_same_outcome(one: &Outcome<Spelling>, other: &Outcome<Spelling>) -> bool {
     match (one, other) {
         (Outcome::Done(value), Outcome::Done(told)) => value.as_bytes() == told.as_bytes(),
-        (Outcome::Trapped(_), Outcome::Trapped(_)) | (Outcome::Out, Outcome::Out) => true,
+        (Outcome::Out, Outcome::Out) => true,
         _ => false,
     }
 }
