@@ -8,6 +8,8 @@ pub mod ReadersBack
 pub mod ObjectsBack
 -- `bytes_are_the_objects`
 pub mod OnlyObjects
+-- `reads_are_well_formed`
+pub mod ReadsWellFormed
 -- `objects_are_programs` and `objects_mean_the_same`
 pub mod ListedTypes
 pub mod ObjectCode

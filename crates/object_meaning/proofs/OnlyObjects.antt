@@ -20,7 +20,7 @@ use Rattle.object_meaning.specs.ObjectLaws.{BytesAreTheObjects}
 use Rattle.object_meaning.proofs.ReadThere.{taken_then, taken_is, taken_rest, Anything, within_most}
 
 -- the bytes that a reader takes are these, and something is so of what it takes
-abbrev Spells : {A : Type 0} → (A → List ℕ) → (A → Type 0) → Reader A → Type 0
+abbrev pub Spells : {A : Type 0} → (A → List ℕ) → (A → Type 0) → Reader A → Type 0
 Spells {A} spell P read = (bytes : List ℕ) → AreBytes bytes → (place : ℕ) (a : A) (rest : List ℕ) (p : ℕ) → read bytes place ≡ Takes a rest p → (bytes ≡ spell a ++ rest) × P a × AreBytes rest
 
 -- With what was taken before, they are those of what is made of all.
@@ -78,19 +78,19 @@ one_byte [] l = absurd (omega (arith, l))
 one_byte (b ∷ []) l = refl
 one_byte (b ∷ c ∷ bs) l = absurd (omega (arith, l))
 
-spells_u8 : (test : ℕ → Bool) → Spells (λ n. n ∷ []) (λ x. test x ≡ true) (u8 test)
+pub spells_u8 : (test : ℕ → Bool) → Spells (λ n. n ∷ []) (λ x. test x ≡ true) (u8 test)
 spells_u8 test = spells_field 1 byte_in test (λ n. n ∷ []) (λ bs l h. one_byte bs l)
 
-spells_u16 : (test : ℕ → Bool) → Spells (to_be_bytes w16) (λ x. test x ≡ true) (u16 test)
+pub spells_u16 : (test : ℕ → Bool) → Spells (to_be_bytes w16) (λ x. test x ≡ true) (u16 test)
 spells_u16 test = spells_field 2 (from_be_bytes w16) test (to_be_bytes w16) (λ bs l h. be_bytes_2 bs (from_be_bytes w16 bs) l (byte_at bs h) refl)
 
-spells_u32 : (test : ℕ → Bool) → Spells word (λ x. test x ≡ true) (u32 test)
+pub spells_u32 : (test : ℕ → Bool) → Spells word (λ x. test x ≡ true) (u32 test)
 spells_u32 test = spells_field 4 (from_be_bytes w32) test word (λ bs l h. be_bytes_4 bs (from_be_bytes w32 bs) l (byte_at bs h) refl)
 
 spells_word : (test : ℕ → Bool) → Spells word Anything (u32 test)
 spells_word test = spells_other word word (λ x. test x ≡ true) Anything (u32 test) (λ a t. (refl, tt)) (spells_u32 test)
 
-spells_text : (offset : ℕ) (test : List ℕ → Bool) (n : ℕ) → Spells (λ text. text) (λ text. length text ≡ n) (text_behind offset test n)
+pub spells_text : (offset : ℕ) (test : List ℕ → Bool) (n : ℕ) → Spells (λ text. text) (λ text. length text ≡ n) (text_behind offset test n)
 spells_text offset test n bytes h place x rest p e = by (nat_lt (length bytes) n) refl (test (take n bytes)) e
   where
     by : (b : Bool) → nat_lt (length bytes) n ≡ b → (c : Bool)
@@ -252,10 +252,10 @@ kind_back (suc (suc (suc zero))) e = refl
 kind_back (suc (suc (suc (suc n)))) e = absurd (omega (arith, within_most 0 3 (suc (suc (suc (suc n)))) e))
 
 -- a number of 8 bytes, as the int that it is
-abbrev int_bytes : ℕ → List ℕ
+abbrev pub int_bytes : ℕ → List ℕ
 int_bytes n = to_be_bytes w64 (cast_unsigned w64 (cast_signed w64 n))
 
-spells_int : Spells int_bytes (λ n. is_int n ≡ true) (field 8 (from_be_bytes w64) is_int)
+pub spells_int : Spells int_bytes (λ n. is_int n ≡ true) (field 8 (from_be_bytes w64) is_int)
 spells_int =
     spells_field 8 (from_be_bytes w64) is_int int_bytes (λ bs l h.
     ap (to_be_bytes w64) (of_z-to_z w64 (from_be_bytes w64 bs) (be_low_8 bs (byte_at bs h))) ∙ be_bytes_8 bs (from_be_bytes w64 bs) l (byte_at bs h) refl)
@@ -408,7 +408,7 @@ module _ (types : List ListedType) (functions : ℕ) where
       ∙ ap (λ l. k ∷ l) (sym (append_assoc N (length ps ∷ (W ++ (R ++ (L ++ C)))) rest))))))))))
 
 -- OBJECTS
-spells_magic : Spells (λ n. object_magic) Anything magic_read
+pub spells_magic : Spells (λ n. object_magic) Anything magic_read
 spells_magic bytes h place x rest p e = by (nat_lt (length bytes) 4) (bytes_eq (take 4 bytes) object_magic) refl e
   where
     by : (b c : Bool) → bytes_eq (take 4 bytes) object_magic ≡ c → (if b then CutShort else (if c then Takes 0 (drop 4 bytes) (place + 4) else BadAt place)) ≡ Takes x rest p

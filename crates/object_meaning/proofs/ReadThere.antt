@@ -47,7 +47,7 @@ field_passes n number test bytes place x rest p e = by (nat_lt (length bytes) n)
     by false true t e = subst (λ y. test y ≡ true) (taken_is (number (take n bytes)) x (drop n bytes) rest (place + n) p e) t
     by false false t e = absurd (cc (e))
 
-text_passes : (offset n : ℕ) (test : List ℕ → Bool) (bytes : List ℕ) (place : ℕ) (x rest : List ℕ) (p : ℕ) → text_behind offset test n bytes place ≡ Takes x rest p → (test x ≡ true) × (length x ≡ n)
+pub text_passes : (offset n : ℕ) (test : List ℕ → Bool) (bytes : List ℕ) (place : ℕ) (x rest : List ℕ) (p : ℕ) → text_behind offset test n bytes place ≡ Takes x rest p → (test x ≡ true) × (length x ≡ n)
 text_passes offset n test bytes place x rest p e = by (nat_lt (length bytes) n) refl (test (take n bytes)) refl e
   where
     by : (b : Bool) → nat_lt (length bytes) n ≡ b → (c : Bool) → test (take n bytes) ≡ c

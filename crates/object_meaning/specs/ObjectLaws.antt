@@ -33,6 +33,10 @@ ObjectsAreReadBack = (o : Object) → IsObject o → object_read (object_bytes o
 abbrev pub BytesAreTheObjects : Type 0
 BytesAreTheObjects = (bytes : List ℕ) (place : ℕ) (o : Object) → AreBytes bytes → object_read bytes 0 ≡ Takes o [] place → bytes ≡ object_bytes o
 
+-- What is read of bytes is well-formed, whatever stands behind it.
+abbrev pub ReadsAreWellFormed : Type 0
+ReadsAreWellFormed = (bytes : List ℕ) (place : ℕ) (o : Object) (rest : List ℕ) → AreBytes bytes → object_read bytes 0 ≡ Takes o rest place → IsObject o
+
 -- The code that the program of an object runs is the object as code.
 abbrev pub ObjectsAreBodies : Type 0
 ObjectsAreBodies = (o : Object) → generated (program_in o) ≡ body_in o

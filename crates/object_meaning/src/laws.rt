@@ -1,6 +1,6 @@
 //! The laws of objects, in `specs/`: each is the contract of a function that does nothing.
 ghost use Rattle.object_meaning.specs.KindLaws.{KindsAreAccepted, ProgramsHaveKinds};
-ghost use Rattle.object_meaning.specs.ObjectLaws.{BytesAreTheObjects, ConstructorsHaveNames, ObjectsAreAccepted, ObjectsAreBodies, ObjectsAreCode, ObjectsArePrograms, ObjectsAreReadBack, ObjectsAreSound, ObjectsAreWithin, ObjectsDoTheSame, ObjectsMeanTheSame, ProgramsAreAccepted, VerdictsAreTheSame};
+ghost use Rattle.object_meaning.specs.ObjectLaws.{BytesAreTheObjects, ConstructorsHaveNames, ObjectsAreAccepted, ObjectsAreBodies, ObjectsAreCode, ObjectsArePrograms, ObjectsAreReadBack, ObjectsAreSound, ObjectsAreWithin, ObjectsDoTheSame, ObjectsMeanTheSame, ProgramsAreAccepted, ReadsAreWellFormed, VerdictsAreTheSame};
 
 /// Code that passes the test of kinds is accepted.
 pub fn kinds_are_accepted()
@@ -20,6 +20,12 @@ pub fn objects_are_read_back()
 /// No other bytes are read as an object: it has one form in bytes.
 pub fn bytes_are_the_objects()
     ensures { BytesAreTheObjects }
+{}
+
+/// What is read of bytes as an object is well-formed: its numbers name what is there, its names are names, and its counts are within the
+/// limits.
+pub fn reads_are_well_formed()
+    ensures { ReadsAreWellFormed }
 {}
 
 /// An object is a compiled program. `bodies` says that the program of an object runs the object's code.
