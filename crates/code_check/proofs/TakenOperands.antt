@@ -12,7 +12,7 @@ use Rattle.core_terms.specs.TypeTables.{type_at}
 use Rattle.core_terms.specs.declared.types.TyId.{TyId}
 use Rattle.code_check.specs.declared.lists.Top.{Top}
 use Rattle.code_check.specs.TypeLists.{IsList, IsTop}
-use Rattle.code_check.specs.KnownTypes.{IsLeft, taken_by}
+use Rattle.code_check.specs.TypeLists.{IsLeft, taken_by}
 
 module _ (types : List Ty) (takes operands : TyId) (take operand : Top) (r : Option TyId)
     (tops : (ts : List Ty) → IsList types takes ts → IsTop types ts (Some take)) (tops' : (os : List Ty) → IsList types operands os → IsTop types os (Some operand)) where
