@@ -23,6 +23,8 @@ mod printed;
 #[cfg(test)]
 mod programs;
 #[cfg(test)]
+mod shared_parts;
+#[cfg(test)]
 mod syntax_faults;
 #[cfg(test)]
 mod trees;

@@ -2,11 +2,16 @@
 pub mod LineLemmas
 pub mod TreeTokens
 pub mod PrintedForms
--- printing::leaves::push_quoted
+-- printing::leaves::push_quoted, and the lengths of texts in printing::leaf_lengths
 pub mod PrintedTexts
--- printing::leaves and printing; Composites has the measure of its cycle
+-- printing::leaves and printing; Composites has the measure of its cycle, and of that of printing::counts
 pub mod PrintedFronts
 pub mod Composites
+-- printing::lengths: BareTypes has the types whose values are spelled by nothing
+pub mod CountedLengths
+pub mod BareTypes
+-- printing::leaf_lengths and printing::counts
+pub mod CountedFronts
 -- the laws printed_is_read_back and parsed_is_read_back of programs
 mod PrintedTokens
 mod BeginAnywhere

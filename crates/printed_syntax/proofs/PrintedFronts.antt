@@ -45,15 +45,15 @@ module _ (p : Program) (bytes before text left : List ℕ) where
 
 -- Values of types in a row with one more: those before, and the last.
 module _ (p : Program) (t : Ty) where
-  record Parted (ts : List Ty) (vs : Values) : Type 0 where
-    before : Values
-    last : Value
-    shapes : AreShallow (meaning p).types ts before
-    shape : IsShallow (meaning p).types t last
-    spelled : spellings vs ≡ spellings before ++ spelling last
-    texts : texts_in p (ts ++ t ∷ []) vs ≡ (texts_in p ts before ++ comma_before (length ts)) ++ text_in p t last
+  pub record Parted (ts : List Ty) (vs : Values) : Type 0 where
+    pub before : Values
+    pub last : Value
+    pub shapes : AreShallow (meaning p).types ts before
+    pub shape : IsShallow (meaning p).types t last
+    pub spelled : spellings vs ≡ spellings before ++ spelling last
+    pub texts : texts_in p (ts ++ t ∷ []) vs ≡ (texts_in p ts before ++ comma_before (length ts)) ++ text_in p t last
 
-  parted : (ts : List Ty) (vs : Values) → AreShallow (meaning p).types (ts ++ t ∷ []) vs → Parted ts vs
+  pub parted : (ts : List Ty) (vs : Values) → AreShallow (meaning p).types (ts ++ t ∷ []) vs → Parted ts vs
   parted [] (AndV v NoV) h = record { before = NoV; last = v; shapes = tt; shape = h.0; spelled = append-nil (spelling v); texts = refl }
   parted [] (AndV v (AndV w ws)) h = elim h.1 [ ]
   parted [] NoV h = elim h [ ]

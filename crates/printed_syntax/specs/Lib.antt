@@ -10,3 +10,4 @@ pub mod WithoutPlaces
 pub mod PrintedProgramLaws
 pub mod PrintedParts
 pub mod PrintedValueLaws
+pub mod PrintedLengths

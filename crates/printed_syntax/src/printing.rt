@@ -1,8 +1,11 @@
 // Values as they are printed.
 
+pub(crate) mod counts;
+pub(crate) mod leaf_lengths;
 pub(crate) mod leaves;
+pub(crate) mod lengths;
 
-ghost use Rattle.std.specs.Prelude.{◌≡◌, ◌<◌, ◌≤◌, ◌^◌, [], length, ◌++◌, IfOk, OnOk};
+ghost use Rattle.std.specs.Prelude.{◌≡◌, ◌<◌, ◌≤◌, ◌^◌, length, ◌++◌, IfOk, OnOk};
 ghost use Rattle.core_terms.specs.Programs.{meaning, types_of};
 ghost use Rattle.core_terms.specs.ProgramTrees.{types_at};
 ghost use Rattle.core_terms.specs.Spelling.{spelling};
@@ -12,22 +15,29 @@ ghost use Rattle.core_terms.specs.Values.{IsShallow, Value};
 ghost use Rattle.printed_syntax.specs.PrintedParts.{ArePrinted, IsPrinted, comma_before, text_in};
 ghost use Rattle.printed_syntax.specs.PrintedValueLaws.{FittingTextsAreShort, PrintedValuesAreReadBack};
 
+use crate::printing::counts::printed_length;
 use crate::printing::leaves::{
     push_spelled_bool, push_spelled_digest, push_spelled_int, push_spelled_text,
 };
+use crate::printing::lengths::{MOST_BYTES, bare_lengths};
 use core_terms::{NamedId, Program, Tag, TyForm, TyId};
 use std::alloc::{AllocError, Global};
 
 /// What stands between two values: a comma and a blank.
-const BETWEEN: &[u8] = b", ";
+pub(crate) const BETWEEN: &[u8] = b", ";
 
 /// The text of the value of a type of the program that these bytes, fewer than 2^32, spell: as a literal, an authenticated value as `#`
 /// and 64 hexadecimal digits, an array in brackets. Of bytes that spell no value of the type nothing is said. The calls nest as deep as
 /// the value.
 ///
+/// A value that is spelled by few bytes may have a long text, since the types of a program may share their parts, and units are spelled by
+/// nothing. So the text is counted before it is made, in time in proportion to the types of the program and to the parts of the value that
+/// have a byte.
+///
 /// # Errors
 ///
-/// `AllocError` where there is no memory for the text.
+/// `AllocError` where the text has more than 4,294,967,296 bytes, or there is no memory for it or for the count, which takes 16 bytes for
+/// each type of the program.
 pub fn print_value(
     alloc: Global,
     program: &Program,
@@ -37,7 +47,12 @@ pub fn print_value(
     ensures { IfOk result (λ text. (v : Value) → IsShallow (meaning program.now).types (type_at (types_of program.now) ty) v → length bytes.now < 2 ^ 32 → bytes.now ≡ spelling v
         → text.items ≡ text_in program.now (type_at (types_of program.now) ty) v) }
 {
-    let mut text = Vec::new(alloc);
+    let bare = bare_lengths(alloc, program)?;
+    let length = printed_length(program, &bare, ty, bytes);
+    if length > MOST_BYTES {
+        return Err(AllocError);
+    }
+    let mut text = Vec::with_capacity(alloc, length)?;
     push_value(&mut text, program, ty, bytes)?;
     Ok(text)
 }

@@ -3,9 +3,8 @@ use Rattle.std.proofs.lemmas.Result.{IfOk-weaker}
 use Rattle.core_terms.specs.Programs.{types_of}
 use Rattle.core_terms.specs.TypeTables.{type_at}
 use Rattle.printed_syntax.specs.PrintedParts.{IsPrinted}
-use Rattle.printed_syntax.proofs.Composites.{all_composites, some_composites, fields_fall}
+use Rattle.printed_syntax.proofs.Composites.{all_composites, rate, some_composites, fields_fall}
 use Rattle.printed_syntax.proofs.PrintedFronts.{bool_printed, int_printed, field_more, item_more, items_printed}
-use Rattle.printed_syntax.proofs.printing.+values.Invariants.{rate}
 use Rattle.printed_syntax.proofs.printing.+values.Goals as goal
 
 pub push_value-returns-in-BoolForm-clause-printed : goal.push_value-returns-in-BoolForm-clause-printed

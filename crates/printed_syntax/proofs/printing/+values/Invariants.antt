@@ -1,16 +1,11 @@
-use Rattle.std.proofs.Common.{◌+◌, ◌*◌, ◌≤◌, ◌++◌, ℕ, codes, length, take}
+use Rattle.std.proofs.Common.{◌+◌, ◌*◌, ◌≤◌, ◌++◌, codes, length, take}
 use Rattle.core_terms.specs.Programs.{types_of}
 use Rattle.core_terms.specs.ProgramTrees.{types_at}
 use Rattle.core_terms.specs.TypeTables.{type_at}
 use Rattle.core_terms.specs.Types.{item_types}
-use Rattle.core_terms.specs.declared.program.Program.{Program}
 use Rattle.printed_syntax.specs.PrintedParts.{ArePrinted}
-use Rattle.printed_syntax.proofs.Composites.{composites, all_composites}
+use Rattle.printed_syntax.proofs.Composites.{composites, all_composites, rate}
 use Rattle.printed_syntax.proofs.printing.+values.Given as goal
-
--- what a byte counts: more than all pairs and arrays of one type, each with its two calls
-abbrev pub rate : Program → ℕ
-rate p = 2 * all_composites (types_of p) + 3
 
 -- A constructor takes a byte, and a pair or an array is opened.
 abbrev pub decreases-push_value : goal.decreases-push_value

@@ -1,0 +1,101 @@
+// Printed values of types that share their parts, as those of an object may: each is a pair, or an array, of the one before it. They are
+// spelled by nothing, and their texts grow with each level.
+use core_terms::{Format, Program, TyForm, TyId, TyTable};
+use printed_syntax::printing::print_value;
+use std::alloc::{AllocError, Global};
+use std::test::Fail;
+use term_stage::parts::program_of;
+use term_stage::tables::may_stand;
+
+/// How many levels stand above unit.
+const LEVELS: usize = 600;
+
+/// The first level whose pairs have a text of more than 4,294,967,296 bytes: 6 * 2^30 - 4.
+const TOO_LONG: usize = 30;
+
+/// A program whose types are unit, and pairs of pairs of it.
+fn pair_program(alloc: Global) -> Result<Box<Program>, AllocError> {
+    let mut types = Box::new(alloc, TyTable::new(Format::Second, alloc))?;
+    let mut last = types.intern(TyForm::UnitForm)?;
+    for _level in 0..LEVELS {
+        let pair = TyForm::PairForm(last, last);
+        if !may_stand(&types, pair) {
+            return Err(AllocError);
+        }
+        last = types.intern(pair)?;
+    }
+    program_of(
+        Box::into_inner(types),
+        Vec::new(alloc),
+        TyId(0),
+        Vec::new(alloc),
+        alloc,
+    )
+}
+
+/// A program whose types are unit, and arrays of arrays of it.
+fn array_program(alloc: Global) -> Result<Box<Program>, AllocError> {
+    let mut types = Box::new(alloc, TyTable::new(Format::Second, alloc))?;
+    let mut last = types.intern(TyForm::UnitForm)?;
+    for _level in 0..LEVELS {
+        let array = TyForm::VecForm(3, last);
+        if !may_stand(&types, array) {
+            return Err(AllocError);
+        }
+        last = types.intern(array)?;
+    }
+    program_of(
+        Box::into_inner(types),
+        Vec::new(alloc),
+        TyId(0),
+        Vec::new(alloc),
+        alloc,
+    )
+}
+
+/// Whether the value at a level is printed so.
+fn is_printed(alloc: Global, program: &Program, level: usize, text: &[u8]) -> bool {
+    match print_value(alloc, program, TyId(level), b"") {
+        Ok(printed) => printed.as_slice() == text,
+        Err(_) => false,
+    }
+}
+
+/// The number of bytes of the text of the value at a level; none where it is refused.
+fn printed_length(alloc: Global, program: &Program, level: usize) -> Option<usize> {
+    match print_value(alloc, program, TyId(level), b"") {
+        Ok(printed) => Some(printed.len()),
+        Err(_) => None,
+    }
+}
+
+#[test]
+fn short_texts_are_printed(rt: HostRuntime) -> Result<(), Fail> {
+    let pairs = pair_program(rt.alloc())?;
+    let arrays = array_program(rt.alloc())?;
+    let three = b"((((), ()), ((), ())), (((), ()), ((), ())))";
+    let two = b"[[(), (), ()], [(), (), ()], [(), (), ()]]";
+    if !is_printed(rt.alloc(), &pairs, 3, three) || !is_printed(rt.alloc(), &arrays, 2, two) {
+        return Err(Fail::new("short"));
+    }
+    if printed_length(rt.alloc(), &pairs, 10) != Some(6_140) {
+        return Err(Fail::new("ten levels"));
+    }
+    Ok(())
+}
+
+/// Each text here would have more than 2^32 bytes, and most more than a memory could ever hold.
+#[test]
+fn long_texts_are_refused_at_once(rt: HostRuntime) -> Result<(), Fail> {
+    let pairs = pair_program(rt.alloc())?;
+    let arrays = array_program(rt.alloc())?;
+    for level in [TOO_LONG, 40, 64, 512, LEVELS] {
+        if printed_length(rt.alloc(), &pairs, level).is_some() {
+            return Err(Fail::new(format_args!("pairs at {level}")));
+        }
+        if printed_length(rt.alloc(), &arrays, level).is_some() {
+            return Err(Fail::new(format_args!("arrays at {level}")));
+        }
+    }
+    Ok(())
+}
