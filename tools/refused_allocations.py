@@ -104,6 +104,7 @@ COMMANDS = [
     (SWITCH, "true", ["verify", "p", "both", "s", "()", "1", "q"], TWICE),
     (FIRST, "()", ["shallow", "p", "i", "o"], b""),
     (SWITCH, "true", ["check", "p"], b""),
+    (SWITCH, "true", ["emit", "p", "o"], b""),
     (SWITCH, "true", ["ideal", "p", "flip", "i", "()", "1"], b""),
     (SWITCH, "true", ["step", "p", "flip", "i", "()", "1", "o"], b""),
     (SWITCH, "true", ["verify", "p", "flip", "s", "()", "1", "q", "o"], ONE),

@@ -1,6 +1,6 @@
 -- Where an answer has the status of an outcome, of a rejection or of a collision, each of its steps went on: the words and the files name
 -- what it went on with.
-use Rattle.std.proofs.Common.{◌≡◌, ℕ, ◌<◌, ◌≤◌, inl, inr, Bool, true, false, List, [], ◌∷◌, length, cond, Option, Some, None, refl, sym, subst, arith, lit<}
+use Rattle.std.proofs.Common.{◌≡◌, ℕ, ◌<◌, ◌≤◌, inl, inr, Bool, true, false, List, [], ◌∷◌, length, cond, Option, Some, None, refl, ap, sym, subst, arith, lit<}
 use Rattle.std.specs.Prelude.{nat_le}
 use Rattle.std.proofs.lemmas.Bool.{leb-true}
 use Rattle.sha2.specs.Sha256.{sha256}
@@ -20,21 +20,29 @@ use Rattle.printed_lines.specs.declared.refusal.Argument.{Argument}
 use Rattle.printed_lines.specs.declared.refusal.Argument.TheVariants as named
 use Rattle.printed_lines.specs.declared.refusal.InputFault.{InputFault}
 use Rattle.printed_lines.specs.declared.refusal.InputFault.TheVariants.{RoleKind, TooLong}
-use Rattle.file_commands.specs.Answer.{Answer, RoleCall, answer_with, audited_answer, call_audit_answer, command_answer, fetched_answer, image_read, input_refused, judged_answer, max_file, max_program, mirror_read, mirrored_answer, callee_of, proof_answer, proved_answer, state_read, verified_answer}
-use Rattle.file_commands.specs.Answer.{with_bytes, with_file, with_fuel, with_fueled_role, with_ideal_call, with_image, with_kept, with_program_file, with_text, with_literal, with_mirror, with_mirror_file, with_number, with_passed, with_pieces, with_program, with_role_at, with_role_call, with_root, with_state, with_state_read}
+use Rattle.auth_syntax.specs.Parsing.{Parsed, parsed}
+use Rattle.auth_syntax.specs.Parsing as parsing
+use Rattle.auth_types.specs.CheckedPrograms.{Checked, checked}
+use Rattle.auth_types.specs.CheckedPrograms as checking
+use Rattle.object_meaning.specs.Accepting.{Acceptance, accepting}
+use Rattle.object_meaning.specs.Accepting as object
+use Rattle.file_commands.specs.Answer.{Answer, RoleCall, answer_with, audited_answer, call_audit_answer, command_answer, fetched_answer, image_read, input_refused, judged_answer, max_file, mirror_read, mirrored_answer, callee_of, proof_answer, proved_answer, refusal_status, refused, state_read, verified_answer}
+use Rattle.file_commands.specs.Answer.{with_bytes, with_file, with_fuel, with_fueled_role, with_ideal_call, with_image, with_kept, with_program_bytes, with_program_file, with_object_or_text, with_literal, with_mirror, with_mirror_file, with_number, with_passed, with_pieces, with_program, with_role_at, with_role_call, with_root, with_state, with_state_read}
 use Rattle.file_commands.specs.Arguments.{fuel_of}
 use Rattle.number_words.specs.Numbers.{number_within}
 use Rattle.file_commands.specs.AuditedCalls.{CallsAudit, TellsAnAudit}
 use Rattle.file_commands.specs.Codes.{code}
+use Rattle.file_commands.specs.FilePrograms.{begins_as_object, constructor_names_of_file, longest_program, of_acceptance, program_of_file, program_of_object}
 use Rattle.file_commands.specs.FueledRoles.{DigestedProgram, FueledRole, NamedProgram}
 use Rattle.file_commands.specs.IdealCalls.{IdealCall}
 use Rattle.file_commands.specs.NamedCalls.{KeepsProgram, NamesInputs, NamesRole, named_program}
 use Rattle.file_commands.specs.ProvedCalls.{CallsProve}
 use Rattle.file_commands.specs.RoleCalls.{is_called, passed_literal, program_called}
-use Rattle.file_commands.specs.TextPrograms.{TextProgram, IsProgram, IsRefused, constructor_names_of_text, program_of_text}
+use Rattle.file_commands.specs.TextPrograms.{FileProgram, IsProgram, IsRefused, of_checked, of_parsed, program_of_text}
 use Rattle.file_commands.specs.TrueLines.{TellsOutcome}
 use Rattle.file_commands.specs.declared.roles.Callee.{Callee}
 use Rattle.file_commands.specs.declared.roles.Callee.TheVariants.{OfState}
+use Rattle.file_commands.specs.declared.status.Status.TheVariants.{ProgramRefused}
 
 -- the numbers of refusals and faults are none of an outcome, of a rejection or of a collision
 pub no_outcome : (n : ℕ) → 4 < n → TellsOutcome n → ⊥
@@ -46,6 +54,31 @@ pub no_audit : (n : ℕ) → 5 < n → n < 11 → TellsAnAudit n → ⊥
 no_audit n high low (inl tells) = no_outcome n (omega (arith, high)) tells
 no_audit n high low (inr (inl is)) = omega (arith, high, is)
 no_audit n high low (inr (inr is)) = omega (arith, low, is)
+
+-- bytes that are no program are refused as none, and not for an input or a proof
+abbrev RefusesProgram : FileProgram → Type 0
+RefusesProgram (IsProgram P) = Unit {0}
+RefusesProgram (IsRefused what) = refusal_status what ≡ ProgramRefused
+
+object_refuses : (found : Acceptance) → RefusesProgram (of_acceptance found)
+object_refuses (object.Accepts o) = tt
+object_refuses (object.FirstFault fault) = refl
+
+checked_refuses : (found : Checked) → RefusesProgram (of_checked found)
+checked_refuses (checking.IsProgram P) = tt
+checked_refuses (checking.FirstFault kind line column) = refl
+
+parsed_refuses : (found : Parsed) → RefusesProgram (of_parsed found)
+parsed_refuses (parsing.Tree program) = checked_refuses (checked program)
+parsed_refuses (parsing.FirstFault kind at) = refl
+
+file_refuses : (bytes : List ℕ) → RefusesProgram (program_of_file bytes)
+unfolding program_of_file program_of_object program_of_text
+file_refuses bytes = by (begins_as_object bytes)
+  where
+    by : (b : Bool) → RefusesProgram (cond b (of_acceptance (accepting bytes)) (of_parsed (parsed bytes)))
+    by true = object_refuses (accepting bytes)
+    by false = parsed_refuses (parsed bytes)
 
 -- Each lemma says what a step went on with, where the whole comes to the answer a, which has such a number.
 module _ (a : Answer) (tells : TellsAnAudit (code a.status)) where
@@ -79,10 +112,19 @@ module _ (a : Answer) (tells : TellsAnAudit (code a.status)) where
   bytes_read None go is = none_is is
   bytes_read (Some bytes) go is = (bytes, refl, is)
 
-  program_read : (digest : List ℕ) (found : TextProgram) (go : DigestedProgram → Option Answer) → IsAnswer (with_program digest found go)
+  program_read : (digest : List ℕ) (found : FileProgram) (go : DigestedProgram → Option Answer) → RefusesProgram found → IsAnswer (with_program digest found go)
       → (P : Program) × (found ≡ IsProgram P) × IsAnswer (go (record { program = P; digest = digest }))
-  program_read digest (IsProgram P) go is = (P, refl, is)
-  program_read digest (IsRefused kind line column) go is = refusal_is _ is (lit< tt) (lit< tt)
+  program_read digest (IsProgram P) go refuses is = (P, refl, is)
+  program_read digest (IsRefused what) go refuses is =
+      let six : 6 ≡ code (refusal_status what) = sym (ap code refuses) in
+      refusal_is (refused what) is (subst (λ n. 5 < n) six (lit< tt)) (subst (λ n. n < 11) six (lit< tt))
+
+  program_bytes_read : (file : Option (List ℕ)) (go : List ℕ → Option Answer) → IsAnswer (with_program_bytes file go)
+      → (bytes : List ℕ) × (file ≡ Some bytes) × (length bytes ≤ longest_program bytes) × IsAnswer (go bytes)
+  program_bytes_read None go is = none_is is
+  program_bytes_read (Some bytes) go is =
+      let fits = test_passed (nat_le (length bytes) (longest_program bytes)) (TooLong named.Program) (go bytes) is in
+      (bytes, refl, leb-true (length bytes) (longest_program bytes) fits.0, fits.1)
 
   number_read : (word : Argument) (found : Option ℕ) (go : ℕ → Option Answer) → IsAnswer (with_number word found go)
       → (n : ℕ) × (found ≡ Some n) × IsAnswer (go n)
@@ -115,11 +157,11 @@ module _ (a : Answer) (tells : TellsAnAudit (code a.status)) where
   program_named : (file : Option (List ℕ)) (go : NamedProgram → Option Answer) → IsAnswer (with_program_file file go)
       → (p : NamedProgram) × KeepsProgram file p × IsAnswer (go p)
   program_named file go is =
-      let read = file_read max_program named.Program file (λ text. with_text text go) is in
-      let text = read.0 in
+      let read = program_bytes_read file (λ bytes. with_object_or_text bytes go) is in
+      let bytes = read.0 in
       let program =
-      program_read (sha256 text) (program_of_text text) (λ p. go (record { digested = p; names = constructor_names_of_text text })) read.3 in
-      (named_program text program.0, record { text = text; there = read.1; fits = read.2; program = program.1; named = refl }, program.2)
+      program_read (sha256 bytes) (program_of_file bytes) (λ p. go (record { digested = p; names = constructor_names_of_file bytes })) (file_refuses bytes) read.3 in
+      (named_program bytes program.0, record { bytes = bytes; there = read.1; fits = read.2; program = program.1; named = refl }, program.2)
 
   role_is_named : (callee : Callee) (program role fuel : List ℕ) (files : Contents) (go : FueledRole → Option Answer)
       → IsAnswer (with_program_file (files program) (λ p. with_fueled_role callee p role fuel go))

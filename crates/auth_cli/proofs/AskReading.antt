@@ -12,10 +12,10 @@ use Rattle.ask_script.specs.declared.step.Step.{Step}
 use Rattle.file_commands.specs.Answer.{Answer, Asking, script_read, with_script, with_steps}
 use Rattle.file_commands.specs.Halting.{GoesOn, InHand, of_script_fault}
 use Rattle.file_commands.specs.ReadPrograms.{named_of}
-use Rattle.file_commands.specs.SoundPrograms.{IsOfText}
+use Rattle.file_commands.specs.SoundPrograms.{IsOfTextOrObject}
 use Rattle.file_commands.specs.declared.report.Halt.{Halt}
 use Rattle.file_commands.specs.declared.report.Halt.TheVariants.{Usage, Refused, ReadFault, NoMemory}
-use Rattle.auth_cli.specs.Asking.{IsOfScript, IsOfTexts}
+use Rattle.auth_cli.specs.Asking.{IsOfScript, IsOfSources}
 use Rattle.auth_cli.specs.PreparedClients.{asked_with}
 use Rattle.auth_cli.specs.declared.asking.AskInputs.{AskInputs}
 use Rattle.file_commands.proofs.Steps.{halts_behind}
@@ -46,12 +46,13 @@ pub goes_on_behind : {A B T : Type 0} (first : (A → Option Answer) → Option 
 goes_on_behind first a next value (Ok t) is goes = λ go. is (λ a. next a go) ∙ goes go
 goes_on_behind first a next value (Err Usage) is goes = absurd goes
 goes_on_behind first a next value (Err (Refused (refusal.Program kind line column))) is goes = λ go. halts_behind _ _ (Refused (refusal.Program kind line column)) (is (λ a. next a go)) (goes go)
+goes_on_behind first a next value (Err (Refused (refusal.Object kind))) is goes = λ go. halts_behind _ _ (Refused (refusal.Object kind)) (is (λ a. next a go)) (goes go)
 goes_on_behind first a next value (Err (Refused (refusal.Input fault))) is goes = λ go. halts_behind _ _ (Refused (refusal.Input fault)) (is (λ a. next a go)) (goes go)
 goes_on_behind first a next value (Err (Refused (refusal.Proof cause))) is goes = absurd goes
 goes_on_behind first a next value (Err ReadFault) is goes = absurd goes
 goes_on_behind first a next value (Err NoMemory) is goes = λ go. tt
 
--- What is asked with inputs that were read for one program is of texts, where that is the program of a text.
-pub asked_of_texts : (p q : Program) (inputs : AskInputs) (a : Asking) → p ≡ q → IsOfScript (named_of p) (map step_meant inputs.steps.items) → IsOfText (meaning q) → a ≡ asked_with q inputs → IsOfTexts a
-asked_of_texts p q inputs a same script text is =
-    subst IsOfTexts (sym is) (record { program = text; script = subst (λ (r : Program). IsOfScript (named_of r) (map step_meant inputs.steps.items)) same script })
+-- What is asked with inputs that were read for one program has its sources, where that is the program of a text or of an object.
+pub asked_of_sources : (p q : Program) (inputs : AskInputs) (a : Asking) → p ≡ q → IsOfScript (named_of p) (map step_meant inputs.steps.items) → IsOfTextOrObject (meaning q) → a ≡ asked_with q inputs → IsOfSources a
+asked_of_sources p q inputs a same script source is =
+    subst IsOfSources (sym is) (record { program = source; script = subst (λ (r : Program). IsOfScript (named_of r) (map step_meant inputs.steps.items)) same script })

@@ -9,7 +9,7 @@ use Rattle.file_commands.specs.Ending.{Outside}
 use Rattle.file_commands.specs.Reaching.{IsReached}
 use Rattle.file_commands.specs.declared.status.Status.{Status}
 use Rattle.file_commands.proofs.Words.{apart, reached_apart, text_at, texts_from}
-use Rattle.auth_cli.specs.Drawing.{EndsDialled, IsOfTexts, MeansDrawing}
+use Rattle.auth_cli.specs.Drawing.{EndsDialled, IsOfSources, MeansDrawing}
 use Rattle.auth_cli.specs.OnlineRuns.{NetSeen}
 
 -- what the words mean
@@ -19,8 +19,8 @@ pub drawing_apart : (words : List (Bor (List ℕ))) (files : Contents) (d : Draw
 drawing_apart words files d six goes = subst (λ ts. MeansDrawing ts files d) (sym (apart words 6 six)) goes
 
 -- and whatever the files tell
-pub drawn_of_texts : (words : List (Bor (List ℕ))) (d : Drawing) → length words ≡ 6 → IsOfTexts (texts_from words 6 0) d → IsOfTexts (texts words) d
-drawn_of_texts words d six of = subst (λ ts. IsOfTexts ts d) (sym (apart words 6 six)) of
+pub drawn_of_sources : (words : List (Bor (List ℕ))) (d : Drawing) → length words ≡ 6 → IsOfSources (texts_from words 6 0) d → IsOfSources (texts words) d
+drawn_of_sources words d six of = subst (λ ts. IsOfSources ts d) (sym (apart words 6 six)) of
 
 -- and where a read failed
 pub undrawn_apart : (words : List (Bor (List ℕ))) (contents : Option Contents) (asked : Option Names) (before now : ℕ) → length words ≡ 6

@@ -1,4 +1,4 @@
--- What is accepted of a drawing of texts is true, whoever answers: for `run`, clause `drawn_truth`.
+-- What is accepted of a drawing is true, whoever answers: for `run`, clause `drawn_truth`.
 use Rattle.std.proofs.Common.{◌≡◌, ℕ, List, [], ◌∷◌, Some, sym, subst}
 use Rattle.sha2.specs.Sha256.{sha256}
 use Rattle.sha2.proofs.Facts256.{length-sha256}
@@ -18,8 +18,8 @@ use Rattle.file_commands.specs.declared.roles.Callee.TheVariants.{OfState}
 use Rattle.file_commands.proofs.RoleShapes.{calls_reads}
 use Rattle.file_commands.proofs.RolesByName.{role_within}
 use Rattle.file_commands.proofs.SoundRoles.{reader, sound_whole}
-use Rattle.file_commands.proofs.SoundTexts.{text_is_sound}
-use Rattle.auth_cli.specs.Drawing.{DrawsTrueOutcomes, IsOfTexts, IsOfWords}
+use Rattle.file_commands.proofs.SoundFiles.{file_is_sound}
+use Rattle.auth_cli.specs.Drawing.{DrawsTrueOutcomes, IsOfSources, IsOfWords}
 
 -- the role is one that the texts name
 named : (texts : List (List ℕ)) (d : Drawing) → IsOfWords texts d → (name : List ℕ) × (role_named (program_called d.call.role) name ≡ Some d.call.role.role)
@@ -32,14 +32,14 @@ named (a ∷ b ∷ c ∷ e ∷ []) d words = absurd words
 named (a ∷ b ∷ c ∷ e ∷ f ∷ []) d words = absurd words
 named (a ∷ b ∷ c ∷ e ∷ f ∷ g ∷ h ∷ more) d words = absurd words
 
-pub drawn_truth : (texts : List (List ℕ)) (d : Drawing) → IsOfTexts texts d → DrawsTrueOutcomes d.call
+pub drawn_truth : (texts : List (List ℕ)) (d : Drawing) → IsOfSources texts d → DrawsTrueOutcomes d.call
 drawn_truth texts d of = λ state argument ideal_state ideal_argument state_is argument_is answers o accepted.
     let r = d.call.role in
     let P = program_called r in
     let f = r.role in
     let t = argument_type P f in
     let name = named texts d of.words in
-    let sound = text_is_sound of.program.0 P of.program.1 in
+    let sound = file_is_sound of.program.bytes P of.program.program in
     let reads = reader P f sound (role_within P name.0 f name.1) (calls_reads OfState (kind_called r) tt of.called) in
     let on_state = subst (λ s. verdict_from sha256 P t f s d.call.argument r.fuel answers ≡ Accepted o) state_is accepted in
     let on_both = subst (λ a. verdict_from sha256 P t f (spelling (projection sha256 P P.state state)) a r.fuel answers ≡ Accepted o) argument_is on_state in

@@ -35,6 +35,7 @@ module _ (T : Type 0) (old new : Outside) (net : NetFaults) (disk disk' : DiskSe
   halt_counted : (halt : Halt) → CausedBy (Err (Halts halt)) → new.write_faults ≡ old.write_faults → HostCountsBy old new net net disk disk' (halt_status halt)
   halt_counted Usage cause writes = absurd cause
   halt_counted (Refused (refusal.Program kind line column)) cause writes = (cause.0, refl, cause.1, writes, cause.2)
+  halt_counted (Refused (refusal.Object kind)) cause writes = (cause.0, refl, cause.1, writes, cause.2)
   halt_counted (Refused (refusal.Input fault)) cause writes = (cause.0, refl, cause.1, writes, cause.2)
   halt_counted (Refused (refusal.Proof why)) cause writes = absurd cause
   halt_counted ReadFault (inl (rose, same), kept) writes = (inl rose, writes, kept)

@@ -108,6 +108,7 @@ hand_cause {T = T} step value files files' reads writes halt result is same goes
     by : (halt : Halt) → InHand (GoesOn step value) (Err halt) → WorkCause {T = T} files files' reads reads writes writes (Err (Halts halt))
     by Usage goes = absurd goes
     by (Refused (refusal.Program kind line column)) goes = (same, refl, refl)
+    by (Refused (refusal.Object kind)) goes = (same, refl, refl)
     by (Refused (refusal.Input fault)) goes = (same, refl, refl)
     by (Refused (refusal.Proof why)) goes = absurd goes
     by ReadFault goes = absurd goes

@@ -47,6 +47,7 @@ pub halted_at : (answer : Contents → Option Answer) (contents : Option Content
     → HaltsAtReached answer contents asked halt → (now ≡ before) ⊎ IsReached answer contents asked
 halted_at answer contents asked before now Usage cause faults = absurd cause
 halted_at answer contents asked before now (Refused (refusal.Program kind line column)) cause faults = inl cause
+halted_at answer contents asked before now (Refused (refusal.Object kind)) cause faults = inl cause
 halted_at answer contents asked before now (Refused (refusal.Input fault)) cause faults = inl cause
 halted_at answer contents asked before now (Refused (refusal.Proof why)) cause faults = absurd cause
 halted_at answer contents asked before now ReadFault cause faults = inr faults

@@ -49,7 +49,7 @@ module _ (line : List (List ℕ)) (files : Contents) (r : FueledRole) (state arg
       let means =
       fetch_means a (inl tells) calls.program_name calls.role_name calls.state_name calls.argument_text calls.fuel_text calls.mirror_name files (sym fetched ∙ is) in
       let same =
-      one_role OfState calls.program_name calls.role_name calls.fuel_text files means.0 means.5 r calls.text calls.program_file calls.program
+      one_role OfState calls.program_name calls.role_name calls.fuel_text files means.0 means.5 r calls.bytes calls.program_file calls.program
       calls.named calls.role calls.fuel in
       let state_is : means.1 ≡ s = let both = sym means.6 ∙ calls.state_file in cc in
       let literal = sym (ap (λ (r : FueledRole). passed_literal r calls.argument_text) same) ∙ means.7 in

@@ -17,10 +17,11 @@ use Rattle.file_commands.specs.Answer.{Answer, RoleCall, accepted_answer, answer
 use Rattle.file_commands.specs.Arguments.{fuel_of}
 use Rattle.file_commands.specs.Codes.{code}
 use Rattle.file_commands.specs.Ending.{Outside, EndsAs, IsToldAs}
+use Rattle.file_commands.specs.FilePrograms.{program_of_file}
 use Rattle.file_commands.specs.FueledRoles.{FueledRole, NamedProgram}
 use Rattle.file_commands.specs.NamedCalls.{NamesRole, named_program}
 use Rattle.file_commands.specs.RoleCalls.{passed_literal, program_called}
-use Rattle.file_commands.specs.TextPrograms.{IsProgram, program_of_text}
+use Rattle.file_commands.specs.TextPrograms.{IsProgram}
 use Rattle.file_commands.specs.TrueLines.{CallsVerify, IsTrueLine, TellsOutcome, words_of}
 use Rattle.file_commands.specs.declared.roles.Callee.{Callee}
 use Rattle.file_commands.specs.declared.status.Status.{Status}
@@ -30,18 +31,18 @@ use Rattle.file_commands.proofs.SoundRoles.{callee_reads, named_reader, reader_h
 
 -- words and files name one role
 module _ (callee : Callee) (program role fuel : List ℕ) (files : Contents) (named : FueledRole) (names : NamesRole callee program role fuel files named)
-    (r : FueledRole) (text : List ℕ) (held : files program ≡ Some text) (is_program : program_of_text text ≡ IsProgram (program_called r))
-    (is : r.program ≡ named_program text (program_called r))
+    (r : FueledRole) (bytes : List ℕ) (held : files program ≡ Some bytes) (is_program : program_of_file bytes ≡ IsProgram (program_called r))
+    (is : r.program ≡ named_program bytes (program_called r))
     (is_role : role_named (program_called r) role ≡ Some r.role) (is_fuel : fuel_of fuel ≡ Some r.fuel) where
-  same_text : names.program_file.text ≡ text
-  same_text = let there = sym names.program_file.there ∙ held in cc
+  same_bytes : names.program_file.bytes ≡ bytes
+  same_bytes = let there = sym names.program_file.there ∙ held in cc
 
   same_tree : program_called named ≡ program_called r
-  same_tree = let both = sym names.program_file.program ∙ ap program_of_text same_text ∙ is_program in cc
+  same_tree = let both = sym names.program_file.program ∙ ap program_of_file same_bytes ∙ is_program in cc
 
   same_program : named.program ≡ r.program
   same_program =
-      names.program_file.named ∙ ap (λ text. named_program text (program_called named)) same_text ∙ ap (λ (P : Program). named_program text P) same_tree ∙ sym is
+      names.program_file.named ∙ ap (λ bytes. named_program bytes (program_called named)) same_bytes ∙ ap (λ (P : Program). named_program bytes P) same_tree ∙ sym is
 
   same_number : named.role ≡ r.role
   same_number = let both = sym names.role ∙ ap (λ (P : Program). role_named P role) same_tree ∙ is_role in cc
@@ -93,7 +94,7 @@ module _ (line : List (List ℕ)) (files : Contents) (r : FueledRole) (state arg
       verify_means a (inl tells) calls.program_name calls.role_name calls.state_name calls.argument_text calls.fuel_text calls.proof_name out files
       (sym judged ∙ is) in
       let same =
-      one_role (callee_of out) calls.program_name calls.role_name calls.fuel_text files means.0 means.4 r calls.text calls.program_file calls.program
+      one_role (callee_of out) calls.program_name calls.role_name calls.fuel_text files means.0 means.4 r calls.bytes calls.program_file calls.program
       calls.named calls.role calls.fuel in
       let state_is : means.1 ≡ s = let both = sym means.5 ∙ calls.state_file in cc in
       let literal = sym (ap (λ (r : FueledRole). passed_literal r calls.argument_text) same) ∙ means.6 in

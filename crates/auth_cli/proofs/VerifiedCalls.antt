@@ -49,7 +49,7 @@ module _ (P : Program) (format : IsFormat P.format) (v : Value) (ideal : IsIdeal
 
 pub call_is_verified : (call : IdealCall) (n : ℕ) (program role image argument fuel : List ℕ) (files : Contents) → IsMeant call → IsAcceptedCall call n
     → (names : NamesRole OfState program role fuel files call.role) → NamesInputs image argument files call
-    → IsVerified call n names.program_file.text role argument fuel
+    → IsVerified call n names.program_file.bytes role argument fuel
 call_is_verified call n program role image argument fuel files meant accepted names inputs name state proof out later called program_is state_is proof_is =
     let r = call.role in
     let P = called_program call in

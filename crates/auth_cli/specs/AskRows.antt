@@ -18,10 +18,10 @@ use Rattle.script_play.specs.declared.halt.Halt.TheVariants as halt
 use Rattle.session_meaning.specs.Messages.{Messages, Reply, messages, reply_of}
 use Rattle.file_commands.specs.Answer.{Answer, Asking, answer_with, with_asking}
 use Rattle.file_commands.specs.Ending.{EndsAs, Outside}
-use Rattle.file_commands.specs.SoundPrograms.{IsOfText}
+use Rattle.file_commands.specs.SoundPrograms.{IsOfTextOrObject}
 use Rattle.file_commands.specs.Telling.{TellsText}
 use Rattle.auth_cli.specs.AskSteps.{IsHaltedFrom, IsPlayedFrom, PlayLinks, PlaysAndStores}
-use Rattle.auth_cli.specs.Asking.{AskCounts, CallsAsk, EndsAsking, EndsPlay, FailsToDial, IsAsk, IsAsking, IsEndTold, IsOfScript, IsOfTexts, IsOfWords, IsPlayedOn, IsStateStored, MeansAsking, PlayEnd, PlayFaults, PlayWrites, TellsTrueOutcomes, asked_play, play_status}
+use Rattle.auth_cli.specs.Asking.{AskCounts, CallsAsk, EndsAsking, EndsPlay, FailsToDial, IsAsk, IsAsking, IsEndTold, IsOfScript, IsOfSources, IsOfWords, IsPlayedOn, IsStateStored, MeansAsking, PlayEnd, PlayFaults, PlayWrites, TellsTrueOutcomes, asked_play, play_status}
 use Rattle.auth_cli.specs.CourseRows.{faults, rose}
 use Rattle.auth_cli.specs.OnlineRuns.{CountsBy, NetSeen}
 use Rattle.auth_cli.specs.PreparedClients.{TellsPort}
@@ -78,12 +78,12 @@ of_words program state port script out a tells = ((refl, tells), (λ m. m))
 pub of_script : (a : Asking) (text : List ℕ) → script_of a.program.digested.program a.program.names text ≡ Steps a.steps → IsOfScript a.program a.steps
 of_script a text is = (text, is)
 
-pub of_texts : (a : Asking) (i : IsOfTexts a) → IsOfText a.program.digested.program × IsOfScript a.program a.steps
-of_texts a i = (i.program, i.script)
+pub of_sources : (a : Asking) (i : IsOfSources a) → IsOfTextOrObject a.program.digested.program × IsOfScript a.program a.steps
+of_sources a i = (i.program, i.script)
 
 pub calls_ask : (texts : List (List ℕ)) (contents : Option Contents) (a : Asking) (name : List ℕ) (c : CallsAsk texts contents a name)
-    → ForSome contents (λ files. MeansAsking texts files a name) × IsOfTexts a
-calls_ask texts contents a name c = (c.means, c.of_texts)
+    → ForSome contents (λ files. MeansAsking texts files a name) × IsOfSources a
+calls_ask texts contents a name c = (c.means, c.of_sources)
 
 -- PLAYS
 pub tells_truth : (a : Asking) → TellsTrueOutcomes a

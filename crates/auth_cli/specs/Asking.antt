@@ -25,7 +25,7 @@ use Rattle.file_commands.specs.FueledRoles.{NamedProgram}
 use Rattle.auth_cli.specs.NetFaults.{NetFaults}
 use Rattle.auth_cli.specs.OnlineRuns.{CountsBy, NetSeen}
 use Rattle.auth_cli.specs.PreparedClients.{TellsPort}
-use Rattle.file_commands.specs.SoundPrograms.{IsOfText}
+use Rattle.file_commands.specs.SoundPrograms.{IsOfTextOrObject}
 use Rattle.file_commands.specs.Telling.{TellsText}
 use Rattle.file_commands.specs.declared.status.Status.{Status}
 use Rattle.file_commands.specs.declared.status.Status.TheVariants.{Done, Rejected, ReadFault, WriteFault, NoMemory}
@@ -136,16 +136,17 @@ MeansAsking texts files a name = ⊥
 abbrev pub IsOfScript : NamedProgram → List UserStep → Type 0
 IsOfScript p steps = (script : List ℕ) × (script_of p.digested.program p.names script ≡ Steps steps)
 
--- What is asked is of texts, whatever the files tell: the program is that of a text, and the steps are those of a script for it.
-pub record IsOfTexts (a : Asking) : Type 0 where
-  pub program : IsOfText a.program.digested.program
+-- What is asked has its sources, whatever the files tell: the program is that of a text or of an accepted object, and the steps are those of a
+-- script for it.
+pub record IsOfSources (a : Asking) : Type 0 where
+  pub program : IsOfTextOrObject a.program.digested.program
   pub script : IsOfScript a.program a.steps
 
 -- The texts behind the command call for this to be asked, and for the state told last to be stored under this name: it is what they and the files
 -- mean, where the contents are told.
 pub record CallsAsk (texts : List (List ℕ)) (contents : Option Contents) (a : Asking) (name : List ℕ) : Type 0 where
   pub means : ForSome contents (λ files. MeansAsking texts files a name)
-  pub of_texts : IsOfTexts a
+  pub of_sources : IsOfSources a
 
 -- And, whatever the files tell: the port is the one that the texts tell, and the name is the last text.
 abbrev pub IsOfWords : List (List ℕ) → Asking → (name : List ℕ) → Type 0

@@ -36,14 +36,14 @@ use Rattle.file_commands.specs.FueledRoles.{FueledRole, NamedProgram}
 use Rattle.file_commands.specs.RoleCalls.{is_called, kind_called, program_called, result_called}
 use Rattle.file_commands.specs.RolesCalled.{IsCalled}
 use Rattle.file_commands.specs.RolesJudged.{call_of as call_held}
-use Rattle.file_commands.specs.SoundPrograms.{IsOfText}
+use Rattle.file_commands.specs.SoundPrograms.{IsOfTextOrObject}
 use Rattle.file_commands.specs.Telling.{TellsText}
 use Rattle.file_commands.specs.declared.roles.Callee.TheVariants.{OfState}
 use Rattle.file_commands.specs.declared.status.Status.{Status}
 use Rattle.file_commands.specs.declared.status.Status.TheVariants.{NoMemory, ReadFault}
 use Rattle.auth_cli.specs.Asking.{FailsToDial}
 use Rattle.auth_cli.specs.DrawSteps.{AreGivenOn, EndsOnLink, IsJudgedOn, JudgesAndTells, JudgesOn, TellsAnswer, TellsJudged, TellsLinkFault, TellsNoMemory}
-use Rattle.auth_cli.specs.Drawing.{BreaksOff, CallsDraw, DrawCounts, DrawsTrueOutcomes, EndsDialled, EndsDrawing, IsDialled, IsDraw, IsDrawing, IsDrawnOn, IsJudged, IsOfTexts, IsOfWords, LacksMemory, MeansDrawing, drawn_answer, verdict_on}
+use Rattle.auth_cli.specs.Drawing.{BreaksOff, CallsDraw, DrawCounts, DrawsTrueOutcomes, EndsDialled, EndsDrawing, IsDialled, IsDraw, IsDrawing, IsDrawnOn, IsJudged, IsOfSources, IsOfWords, LacksMemory, MeansDrawing, drawn_answer, verdict_on}
 use Rattle.auth_cli.specs.OnlineRuns.{CountsBy, NetSeen}
 use Rattle.auth_cli.specs.PreparedClients.{TellsPort}
 use Rattle.auth_cli.specs.PreparedDrawings.{IsReady, TellsRole, drawing_of, drawn_with, texts_of}
@@ -133,12 +133,12 @@ module _ (program role state argument fuel port : List ℕ) (d : Drawing) where
   pub of_no_words : IsOfWords [] d → ⊥
   of_no_words of = of
 
-pub of_texts : (texts : List (List ℕ)) (d : Drawing) (i : IsOfTexts texts d) → IsOfText (program_called d.call.role) × (is_called OfState (kind_called d.call.role) ≡ true) × IsOfWords texts d
-of_texts texts d i = (i.program, i.called, i.words)
+pub of_sources : (texts : List (List ℕ)) (d : Drawing) (i : IsOfSources texts d) → IsOfTextOrObject (program_called d.call.role) × (is_called OfState (kind_called d.call.role) ≡ true) × IsOfWords texts d
+of_sources texts d i = (i.program, i.called, i.words)
 
 pub calls_draw : (texts : List (List ℕ)) (contents : Option Contents) (d : Drawing) (c : CallsDraw texts contents d)
-    → ForSome contents (λ files. MeansDrawing texts files d) × IsOfTexts texts d
-calls_draw texts contents d c = (c.means, c.of_texts)
+    → ForSome contents (λ files. MeansDrawing texts files d) × IsOfSources texts d
+calls_draw texts contents d c = (c.means, c.of_sources)
 
 -- BEFORE THE LINK
 pub texts_are : (words : DrawWords) → texts_of words

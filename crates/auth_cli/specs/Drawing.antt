@@ -25,7 +25,7 @@ use Rattle.file_commands.specs.Answer.{Answer, Drawing, RoleCall, answer_with, s
 use Rattle.file_commands.specs.Arguments.{fuel_of}
 use Rattle.file_commands.specs.Ending.{Outside, EndsAs}
 use Rattle.file_commands.specs.RoleCalls.{is_called, kind_called, program_called, result_called}
-use Rattle.file_commands.specs.SoundPrograms.{IsOfText}
+use Rattle.file_commands.specs.SoundPrograms.{IsOfTextOrObject}
 use Rattle.file_commands.specs.Telling.{TellsText}
 use Rattle.file_commands.specs.declared.status.Status.{Status}
 use Rattle.file_commands.specs.declared.status.Status.TheVariants.{NoMemory, ReadFault}
@@ -125,17 +125,17 @@ IsOfWords (program ∷ role ∷ state ∷ argument ∷ fuel ∷ port ∷ []) d =
     (role_named (program_called d.call.role) role ≡ Some d.call.role.role) × (fuel_of fuel ≡ Some d.call.role.fuel) × TellsPort port d.port
 IsOfWords texts d = ⊥
 
--- And, whatever the files tell: the program is that of a text, the role is the one of its roles that the texts name, and reads a state, and the fuel
--- and the port are those that the texts tell.
-pub record IsOfTexts (texts : List (List ℕ)) (d : Drawing) : Type 0 where
-  pub program : IsOfText (program_called d.call.role)
+-- And, whatever the files tell: the program is that of a text or of an accepted object, the role is the one of its roles that the texts name, and
+-- reads a state, and the fuel and the port are those that the texts tell.
+pub record IsOfSources (texts : List (List ℕ)) (d : Drawing) : Type 0 where
+  pub program : IsOfTextOrObject (program_called d.call.role)
   pub called : is_called OfState (kind_called d.call.role) ≡ true
   pub words : IsOfWords texts d
 
 -- The texts behind the command call for this to be judged: it is what they and the files mean, where the contents are told.
 pub record CallsDraw (texts : List (List ℕ)) (contents : Option Contents) (d : Drawing) : Type 0 where
   pub means : ForSome contents (λ files. MeansDrawing texts files d)
-  pub of_texts : IsOfTexts texts d
+  pub of_sources : IsOfSources texts d
 
 -- a run that came to dial
 pub record IsDrawing (texts : List (List ℕ)) (old new : Outside) (net net' : NetSeen) (status : Status) : Type 0 where

@@ -2,7 +2,7 @@
 use Rattle.std.specs.Prelude.{◌≡◌, ◌⊎◌, ◌≤◌, ℕ, List, [], ◌∷◌, Option, Some, None, refl}
 use Rattle.std.proofs.Common.{arith, ap, inl, inr}
 use Rattle.command_words.specs.Invocations.{Invocation}
-use Rattle.command_words.specs.declared.command.Command.TheVariants.{Check, Init, Ideal, Step, Shallow, Migrate, Prove, Verify, Audit, Library, Gen, Serve, Ask, Pieces, Fetch, Mirror, Draw, Found, Host, Replay}
+use Rattle.command_words.specs.declared.command.Command.TheVariants.{Check, Init, Ideal, Step, Shallow, Migrate, Prove, Verify, Audit, Library, Gen, Serve, Ask, Pieces, Fetch, Mirror, Draw, Found, Host, Replay, Emit}
 use Rattle.lam_outside.specs.Causes.{Rose}
 use Rattle.lam_outside.specs.Told.{Contents, Names}
 use Rattle.file_commands.specs.Answer.{Answer, answer_with, usage_answer}
@@ -64,22 +64,22 @@ not_done c = let e : 4 ≡ 3 = ap (λ (f : NetFaults). f.dials) c.1 in omega (ar
 
 -- COMMANDS
 pub use_no_net : UsesNoNet Check × UsesNoNet Init × UsesNoNet Ideal × UsesNoNet Step × UsesNoNet Shallow × UsesNoNet Migrate × UsesNoNet Prove × UsesNoNet Verify × UsesNoNet Audit × UsesNoNet Library × UsesNoNet Gen
-    × UsesNoNet Pieces × UsesNoNet Fetch × UsesNoNet Found × UsesNoNet Replay
-use_no_net = (tt, tt, tt, tt, tt, tt, tt, tt, tt, tt, tt, tt, tt, tt, tt)
+    × UsesNoNet Pieces × UsesNoNet Fetch × UsesNoNet Found × UsesNoNet Replay × UsesNoNet Emit
+use_no_net = (tt, tt, tt, tt, tt, tt, tt, tt, tt, tt, tt, tt, tt, tt, tt, tt)
 
 pub use_a_net : (UsesNoNet Serve → ⊥) × (UsesNoNet Ask → ⊥) × (UsesNoNet Mirror → ⊥) × (UsesNoNet Draw → ⊥) × (UsesNoNet Host → ⊥)
 use_a_net = ((λ u. u), (λ u. u), (λ u. u), (λ u. u), (λ u. u))
 
 pub use_no_disk : UsesNoDisk Check × UsesNoDisk Init × UsesNoDisk Ideal × UsesNoDisk Step × UsesNoDisk Shallow × UsesNoDisk Migrate × UsesNoDisk Prove × UsesNoDisk Verify × UsesNoDisk Audit × UsesNoDisk Library
-    × UsesNoDisk Gen × UsesNoDisk Pieces × UsesNoDisk Fetch × UsesNoDisk Serve × UsesNoDisk Ask × UsesNoDisk Mirror × UsesNoDisk Draw
-use_no_disk = (tt, tt, tt, tt, tt, tt, tt, tt, tt, tt, tt, tt, tt, tt, tt, tt, tt)
+    × UsesNoDisk Gen × UsesNoDisk Pieces × UsesNoDisk Fetch × UsesNoDisk Serve × UsesNoDisk Ask × UsesNoDisk Mirror × UsesNoDisk Draw × UsesNoDisk Emit
+use_no_disk = (tt, tt, tt, tt, tt, tt, tt, tt, tt, tt, tt, tt, tt, tt, tt, tt, tt, tt)
 
 pub use_a_disk : (UsesNoDisk Found → ⊥) × (UsesNoDisk Host → ⊥) × (UsesNoDisk Replay → ⊥)
 use_a_disk = ((λ u. u), (λ u. u), (λ u. u))
 
 -- either is enough to be no command of files
-pub of_files : IsOfFiles Check × IsOfFiles Migrate × IsOfFiles Fetch × (IsOfFiles Serve → ⊥) × (IsOfFiles Found → ⊥) × (IsOfFiles Host → ⊥) × (IsOfFiles Replay → ⊥)
-of_files = ((tt, tt), (tt, tt), (tt, tt), (λ o. o.0), (λ o. o.1), (λ o. o.0), (λ o. o.1))
+pub of_files : IsOfFiles Check × IsOfFiles Emit × IsOfFiles Migrate × IsOfFiles Fetch × (IsOfFiles Serve → ⊥) × (IsOfFiles Found → ⊥) × (IsOfFiles Host → ⊥) × (IsOfFiles Replay → ⊥)
+of_files = ((tt, tt), (tt, tt), (tt, tt), (tt, tt), (λ o. o.0), (λ o. o.1), (λ o. o.0), (λ o. o.1))
 
 pub dials : DialsNone Serve × DialsNone Mirror × DialsNone Verify × DialsNone Found × DialsNone Host × DialsNone Replay × (DialsNone Ask → ⊥) × (DialsNone Draw → ⊥)
 dials = (tt, tt, tt, tt, tt, tt, (λ d. d), (λ d. d))

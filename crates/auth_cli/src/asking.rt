@@ -7,7 +7,7 @@ ghost use Rattle.core_terms.specs.Programs.{meaning};
 ghost use Rattle.ask_script.specs.ScriptAnswers.{step_meant};
 ghost use Rattle.ask_script.specs.Scripts.{Fits};
 ghost use Rattle.file_commands.specs.Answer.{unasked_answer, with_asked, with_asking, with_script, with_script_file};
-ghost use Rattle.auth_cli.specs.Asking.{IsOfScript, IsOfTexts};
+ghost use Rattle.auth_cli.specs.Asking.{IsOfScript, IsOfSources};
 ghost use Rattle.file_commands.specs.Halting.{GoesOn, HaltCause, InHand};
 ghost use Rattle.auth_cli.specs.PreparedClients.{FitProgram, IsReady, TellsPort, asked_by, asked_with};
 ghost use Rattle.file_commands.specs.ReadPrograms.{named_of};
@@ -63,7 +63,7 @@ pub fn read_asking<F: Files>(
     ensures goes { let words = words.now in ForSome (F.contents files.old) (λ told. GoesOn
         (with_asking words.program.now words.state.now words.port.now words.script.now told) asked_by result) }
     ensures ready { IfOk result IsReady }
-    ensures of_texts { IfOk result (λ client. IsOfTexts (asked_by client)) }
+    ensures of_sources { IfOk result (λ client. IsOfSources (asked_by client)) }
     ensures port { IfOk result (λ client. TellsPort words.now.port.now client.port) }
     ensures reached { let words = words.now in FaultsAtReached (unasked_answer words.program.now words.state.now words.port.now words.script.now)
         (F.contents files.old) (F.asked files.new) result }

@@ -7,7 +7,7 @@ ghost use Rattle.file_commands.specs.ReadPrograms.{named_of};
 ghost use Rattle.file_commands.specs.Reaching.{FaultsAtReached};
 ghost use Rattle.file_commands.specs.RolesCalled.{IsCalled, role_of};
 ghost use Rattle.file_commands.specs.declared.roles.Callee.TheVariants.{OfState};
-ghost use Rattle.auth_cli.specs.Drawing.{IsOfTexts};
+ghost use Rattle.auth_cli.specs.Drawing.{IsOfSources};
 ghost use Rattle.auth_cli.specs.PreparedClients.{TellsPort};
 ghost use Rattle.auth_cli.specs.PreparedDrawings.{IsReady, TellsRole, drawing_of, drawn_with, texts_of};
 
@@ -54,7 +54,7 @@ pub fn read_drawing<F: Files>(
     ensures goes { let words = words.now in ForSome (F.contents files.old) (λ told. GoesOn
         (with_drawing words.call.program.now words.call.role.now words.state.now words.call.argument.now words.call.fuel.now words.port.now told) drawing_of result) }
     ensures ready { IfOk result IsReady }
-    ensures of_texts { IfOk result (λ held. IsOfTexts (texts_of words.now) (drawing_of held)) }
+    ensures of_sources { IfOk result (λ held. IsOfSources (texts_of words.now) (drawing_of held)) }
     ensures reached { let words = words.now in FaultsAtReached
         (undrawn_answer words.call.program.now words.call.role.now words.state.now words.call.argument.now words.call.fuel.now words.port.now)
         (F.contents files.old) (F.asked files.new) result }

@@ -34,9 +34,9 @@ ghost use Rattle.file_commands.specs.declared.status.Status.{Status};
 use crate::{ask_command, draw_command, host_command, mirror_command, serve_command};
 use command_words::{Command, WordsFault, read};
 use file_commands::{
-    Halt, Status, audit_command, check_command, fetch_command, gen_command, ideal_command,
-    init_command, library_command, migrate_command, pieces_command, prove_command, shallow_command,
-    step_command, tell, verify_command,
+    Halt, Status, audit_command, check_command, emit_command, fetch_command, gen_command,
+    ideal_command, init_command, library_command, migrate_command, pieces_command, prove_command,
+    shallow_command, step_command, tell, verify_command,
 };
 use journal_commands::{found_command, replay_command};
 use lam_outside::{Disk, Files, Net, Sink};
@@ -46,11 +46,11 @@ use std::thread::Threads;
 /// Runs the words of a command line, the program's name first, and answers the exit status.
 ///
 /// Each line ends with a line feed and goes to the sink. Numbers are decimal, digests 64 lower-case hexadecimal digits, places in
-/// the program's text a line and a column, from 1 and by bytes, other places an offset:
+/// a program's text a line and a column, from 1 and by bytes, other places an offset:
 ///
 /// | status | line | comes |
 /// |---|---|---|
-/// | 0 | `ok DIGEST` | `check`: the text is a program, and has this SHA-256 digest |
+/// | 0 | `ok DIGEST` | `check`: the file is a program, as a text or as an object, and has this SHA-256 digest |
 /// | 0 | `calls C done D new A used U bytes B` | `gen`: of C calls D ended with a value; together their proofs have A pieces of their own and name U again, and their files have B bytes |
 /// | 0 | `state VALUE` | `shallow`: the projection of the state has this value, and its spelling is stored; `migrate`: the same by the program that the state is moved to, whose image is stored; `gen`, behind the line of its calls: that of the last state has it |
 /// | 0 | the text | `library`: the program of the library, unchanged |
@@ -69,10 +69,16 @@ use std::thread::Threads;
 /// | 5 | `S rejected CAUSE` | `ask`, as the last line: the proof of a call of session S is rejected |
 /// | 5 | `bad reply S stranger`, `bad reply S wrong KIND`, `server closed CODE`, `bad message KIND OFFSET`, `message too long BYTES`, `reply cut`, `reply ended` | `ask`, as the last line: another reply came than one that is waited for, or none; the last four also of `draw`, of what comes where an answer is waited for |
 /// | 6 | `program refused: KIND LINE COLUMN` | the text is no program: its first fault |
-/// | 7 | `input refused: too long ARGUMENT` | the file that `P`, `Q`, `STATE`, `IMG`, `SCRIPT` or `MIRROR` names is too long, or the image or the mirror for `OUT` would be |
+/// | 6 | `program refused: object cut BYTES` | the object ends inside a field: how many bytes it has |
+/// | 6 | `program refused: object field OFFSET` | the object's field that begins there is not allowed |
+/// | 6 | `program refused: object leftover BYTES` | so many bytes stand behind the object |
+/// | 6 | `program refused: object shape FUNCTION` | the object's function with this number, from 0, has not the shape of its role, or has an `auth` in its argument |
+/// | 6 | `program refused: object kind FUNCTION INSTRUCTION` | the instruction with this number of that function, both from 0, is at fault |
+/// | 7 | `input refused: too long ARGUMENT` | the file that `P`, `Q`, `STATE`, `IMG`, `SCRIPT` or `MIRROR` names is too long, or the image, the mirror or the object for `OUT` would be |
 /// | 7 | `input refused: library unknown` | the library has no program of this name |
 /// | 7 | `input refused: migrate format` | the one program isn't of the first format, or the other not of the second |
 /// | 7 | `input refused: migrate types` | the type declarations of the two programs, as they are printed, or the types of their states differ |
+/// | 7 | `input refused: object format` | `emit`: the file begins as an object, or its program is of the second format |
 /// | 7 | `input refused: role unknown` | the program has no role of this name |
 /// | 7 | `input refused: role kind` | the role is not of the kind that the command calls: an init for `init`, an update for `step` and for `verify` with `OUT`, else a query or an update |
 /// | 7 | `input refused: number FUEL` | the fuel isn't of 1 to 20 digits, or above 10^12 |
@@ -123,8 +129,9 @@ use std::thread::Threads;
 /// | `missing PLACE WANT` | `fetch`, `draw`: the mirror has no piece with the digest held |
 /// | `leftover BYTES` | the run ended, and so many bytes are left, or 65536 where there are more |
 ///
-/// The program's text has at most 262,144 bytes, each other file at most 67,108,864, but that a proof that is judged may
-/// have any length. What is refused first in this order ends the run: the words, the program, in `migrate` the other program and what both have in common, the role, the fuel, the number of
+/// A program is read from a text of at most 262,144 bytes, or from an object, which begins with `LAO1`, of at most 4,194,304. `migrate` reads texts
+/// alone, and so does `emit`, which stores the object of a text's program and writes no line. Each other file has at most 67,108,864 bytes, but
+/// that a proof that is judged may have any length. What is refused first in this order ends the run: the words, the program, in `migrate` the other program and what both have in common, the role, the fuel, the number of
 /// pieces that are kept, the port, the number of connections, the number of calls in a turn, the state or the image, the argument,
 /// the script, the proof, the mirror, the journal; of `gen` the words, the name, the seed, the number of rounds, the number of pieces that are kept. A file is
 /// opened when all that stands before it is well-formed, so `read fault` comes only from a file that this order had reached. A file is
@@ -396,6 +403,7 @@ fn carry_out_offline<F: Files, O: Sink>(
         Command::Gen => gen_command(alloc, words, out),
         Command::Pieces => pieces_command(alloc, words, files, out),
         Command::Fetch => fetch_command(alloc, words, files, out),
+        Command::Emit => emit_command(alloc, words, files, out),
         Command::Serve | Command::Ask | Command::Mirror | Command::Draw => unreachable!(),
         Command::Host | Command::Found | Command::Replay => unreachable!(),
     }

@@ -2,7 +2,7 @@
 use Rattle.std.specs.Prelude.{◌≡◌, ◌⊎◌, ◌≤◌, ℕ, List, [], ◌∷◌, ◌++◌, length, map, find, bytes_eq, codes, Option, Some}
 use Rattle.std.specs.Borrow.{Bor}
 use Rattle.command_words.specs.declared.command.Command.{Command}
-use Rattle.command_words.specs.declared.command.Command.TheVariants.{Check, Init, Ideal, Step, Shallow, Migrate, Prove, Verify, Audit, Library, Gen, Serve, Ask, Pieces, Fetch, Mirror, Draw, Found, Host, Replay}
+use Rattle.command_words.specs.declared.command.Command.TheVariants.{Check, Init, Ideal, Step, Shallow, Migrate, Prove, Verify, Audit, Library, Gen, Serve, Ask, Pieces, Fetch, Mirror, Draw, Found, Host, Replay, Emit}
 
 abbrev pub Text : Type 0
 Text = List ℕ
@@ -49,6 +49,7 @@ commands =
     row Found (codes "found") (codes "P" ∷ codes "IMG" ∷ codes "JOURNAL" ∷ []) ∷
     row Host (codes "host") (codes "P" ∷ codes "JOURNAL" ∷ codes "PORT" ∷ codes "CONNS" ∷ codes "SLICE" ∷ []) ∷
     row Replay (codes "replay") (codes "P" ∷ codes "JOURNAL" ∷ codes "OUT" ∷ []) ∷
+    row Emit (codes "emit") (codes "P" ∷ codes "OUT" ∷ []) ∷
     []
 
 -- the row of this name

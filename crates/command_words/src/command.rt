@@ -26,6 +26,7 @@ pub enum Command {
     Found,
     Host,
     Replay,
+    Emit,
 }
 
 /// A command that words call, with the texts of its arguments.
@@ -48,7 +49,7 @@ pub struct Row {
 
 /// The commands.
 #[rattlefmt::skip]
-static COMMANDS: [Row; 20] = [
+static COMMANDS: [Row; 21] = [
     Row { command: Command::Check, name: "check", arguments: &["P"], least: 1 },
     Row { command: Command::Init, name: "init", arguments: &["P", "ROLE", "ARG", "FUEL", "OUT"], least: 5 },
     Row { command: Command::Ideal, name: "ideal", arguments: &["P", "ROLE", "IMG", "ARG", "FUEL"], least: 5 },
@@ -69,6 +70,7 @@ static COMMANDS: [Row; 20] = [
     Row { command: Command::Found, name: "found", arguments: &["P", "IMG", "JOURNAL"], least: 3 },
     Row { command: Command::Host, name: "host", arguments: &["P", "JOURNAL", "PORT", "CONNS", "SLICE"], least: 5 },
     Row { command: Command::Replay, name: "replay", arguments: &["P", "JOURNAL", "OUT"], least: 3 },
+    Row { command: Command::Emit, name: "emit", arguments: &["P", "OUT"], least: 2 },
 ];
 
 /// The table of the commands.

@@ -73,6 +73,7 @@ init_halts p called is text {T} Stands halt result same halts = subst (InHand (G
     by : (halt : Halt) → InHand (GoesOnFor (with_literal (named_literal (named_of p) (type_at (types_of p) called.argument) text)) Stands) (Err halt) → InHand (GoesOnFor step (IsEnded Init p)) (Err halt)
     by Usage halts = absurd halts
     by (Refused (refusal.Program kind line column)) halts = passes (Refused (refusal.Program kind line column)) halts
+    by (Refused (refusal.Object kind)) halts = passes (Refused (refusal.Object kind)) halts
     by (Refused (refusal.Input fault)) halts = passes (Refused (refusal.Input fault)) halts
     by (Refused (refusal.Proof cause)) halts = absurd halts
     by ReadFault halts = absurd halts

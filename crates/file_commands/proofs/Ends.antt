@@ -47,6 +47,7 @@ line_is answer status line is = rw (is, one_line line) refl
 halt_judging : (before now : ℕ) (halt : Halt) → MayHalt before now halt → MayHaltJudging before now halt
 halt_judging before now Usage cause = cause
 halt_judging before now (Refused (refusal.Program kind line column)) cause = cause
+halt_judging before now (Refused (refusal.Object kind)) cause = cause
 halt_judging before now (Refused (refusal.Input fault)) cause = cause
 halt_judging before now (Refused (refusal.Proof why)) cause = absurd cause
 halt_judging before now ReadFault cause = cause
@@ -85,6 +86,7 @@ module _ (answer : Contents → Option Answer) (old new : Outside) where
       → new.written ≡ append_known old.written (refusal_line what) → new.stores ≡ old.stores
       → new.read_faults ≡ old.read_faults → new.store_faults ≡ old.store_faults → new.write_faults ≡ old.write_faults → EndsAs answer old new (refusal_status what)
   refusal_ends (refusal.Program kind line column) finds written same reads stores writes = answered _ _ finds written same reads stores writes
+  refusal_ends (refusal.Object kind) finds written same reads stores writes = answered _ _ finds written same reads stores writes
   refusal_ends (refusal.Input fault) finds written same reads stores writes = answered _ _ finds written same reads stores writes
   refusal_ends (refusal.Proof cause) finds written same reads stores writes = answered _ _ finds written same reads stores writes
 
@@ -161,6 +163,7 @@ hand_finds : (answer : Option Answer) (found : Found) → InHand (Finds answer) 
 hand_finds answer (Ok report) finds = finds
 hand_finds answer (Err Usage) finds = absurd finds
 hand_finds answer (Err (Refused (refusal.Program kind line column))) finds = finds
+hand_finds answer (Err (Refused (refusal.Object kind))) finds = finds
 hand_finds answer (Err (Refused (refusal.Input fault))) finds = finds
 hand_finds answer (Err (Refused (refusal.Proof why))) finds = absurd finds
 hand_finds answer (Err ReadFault) finds = absurd finds
@@ -170,6 +173,7 @@ hand_cause : (answer : Option Answer) (found : Found) (faults : ℕ) → InHand 
 hand_cause answer (Ok report) faults finds = refl
 hand_cause answer (Err Usage) faults finds = absurd finds
 hand_cause answer (Err (Refused (refusal.Program kind line column))) faults finds = refl
+hand_cause answer (Err (Refused (refusal.Object kind))) faults finds = refl
 hand_cause answer (Err (Refused (refusal.Input fault))) faults finds = refl
 hand_cause answer (Err (Refused (refusal.Proof why))) faults finds = absurd finds
 hand_cause answer (Err ReadFault) faults finds = absurd finds

@@ -10,16 +10,17 @@ use Rattle.printed_lines.specs.declared.refusal.Argument.{Argument}
 use Rattle.printed_lines.specs.declared.refusal.Argument.TheVariants as named
 use Rattle.printed_lines.specs.declared.refusal.InputFault.{InputFault}
 use Rattle.printed_lines.specs.declared.refusal.InputFault.TheVariants.{RoleKind, TooLong}
-use Rattle.file_commands.specs.Answer.{Answer, call_audit_answer, command_answer, input_refused, max_file, max_program, proof_answer}
-use Rattle.file_commands.specs.Answer.{with_bytes, with_file, with_fuel, with_fueled_role, with_ideal_call, with_image, with_image_file, with_kept, with_program_file, with_text, with_literal, with_number, with_passed, with_program, with_role_at, with_root}
+use Rattle.file_commands.specs.Answer.{Answer, call_audit_answer, command_answer, input_refused, max_file, proof_answer}
+use Rattle.file_commands.specs.Answer.{with_bytes, with_file, with_fuel, with_fueled_role, with_ideal_call, with_image, with_image_file, with_kept, with_program_file, with_literal, with_number, with_object_or_text, with_passed, with_program, with_role_at, with_root}
 use Rattle.file_commands.specs.AuditedCalls.{CallsAudit}
+use Rattle.file_commands.specs.FilePrograms.{constructor_names_of_file}
 use Rattle.file_commands.specs.FueledRoles.{DigestedProgram, FueledRole, NamedProgram}
 use Rattle.file_commands.specs.IdealCalls.{IdealCall}
 use Rattle.file_commands.specs.NamedCalls.{KeepsProgram, KeepsState, NamesInputs, NamesRole}
 use Rattle.file_commands.specs.ProvedCalls.{CallsProve}
 use Rattle.file_commands.specs.RoleCalls.{is_called, kind_called, program_called}
-use Rattle.file_commands.specs.TextPrograms.{constructor_names_of_text}
 use Rattle.file_commands.specs.declared.roles.Callee.{Callee}
+use Rattle.file_commands.proofs.FileReadings.{bytes_go}
 
 passed : (test : Bool) (fault : InputFault) (behind : Option Answer) → test ≡ true → cond test behind (Some (input_refused fault)) ≡ behind
 passed true fault behind is = refl
@@ -31,12 +32,12 @@ file_goes most word file bytes go held fits =
     ap (λ (file : Option (List ℕ)). with_file most word file go) held
     ∙ passed (nat_le (length bytes) most) (TooLong word) (go bytes) (le-leb (length bytes) most fits)
 
--- the program, in whatever file its text is held
-pub program_goes : (file other : Option (List ℕ)) (p : NamedProgram) (keeps : KeepsProgram file p) (go : NamedProgram → Option Answer) → other ≡ Some keeps.text
+-- the program, in whatever file its bytes are held
+pub program_goes : (file other : Option (List ℕ)) (p : NamedProgram) (keeps : KeepsProgram file p) (go : NamedProgram → Option Answer) → other ≡ Some keeps.bytes
     → with_program_file other go ≡ go p
 program_goes file other p keeps go held =
-    file_goes max_program named.Program other keeps.text (λ text. with_text text go) held keeps.fits
-    ∙ ap (λ found. with_program (sha256 keeps.text) found (λ p. go (record { digested = p; names = constructor_names_of_text keeps.text }))) keeps.program
+    bytes_go keeps.bytes other held keeps.fits (λ bytes. with_object_or_text bytes go)
+    ∙ ap (λ found. with_program (sha256 keeps.bytes) found (λ p. go (record { digested = p; names = constructor_names_of_file keeps.bytes }))) keeps.program
     ∙ ap go (sym keeps.named)
 
 -- a role that a command calls, and its fuel

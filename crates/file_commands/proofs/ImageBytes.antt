@@ -24,6 +24,7 @@ pub hand_halts_for : {A T : Type 0} (step : (A → Option Answer) → Option Ans
     → (go : A → Option Answer) → HaltsAs (step go) halt
 hand_halts_for step Stands Usage goes = absurd goes
 hand_halts_for step Stands (Refused (refusal.Program kind line column)) goes = goes
+hand_halts_for step Stands (Refused (refusal.Object kind)) goes = goes
 hand_halts_for step Stands (Refused (refusal.Input fault)) goes = goes
 hand_halts_for step Stands (Refused (refusal.Proof cause)) goes = absurd goes
 hand_halts_for step Stands ReadFault goes = absurd goes

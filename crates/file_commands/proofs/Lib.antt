@@ -25,7 +25,9 @@ pub mod HeldCalls  -- `make_proof`, `audit_call`
 pub mod ProofOutputs  -- `make_proof`
 pub mod GoingOn  -- `run`, the law `shallow_stores_the_clients_state`: that they go on
 pub mod SoundRoles  -- `find_judgement`; `run`: clauses `companion`, `audited`, `headline`
-pub mod SoundTexts  -- the law `programs_are_sound`
+pub mod SoundFiles  -- the law `programs_are_sound`
+pub mod FileReadings  -- `load_program`, `read_object_or_text`, `read_program_file`; the laws `programs_are_sound`, `constructors_are_named`
+pub mod WrittenOutputs  -- `write_output`, `emit_object`, `read_listed_program`
 pub mod PassedTrees  -- `read_program`, `read_programs`; the law `programs_are_sound`
 pub mod EqualTables  -- `read_programs`
 pub mod MovedImages  -- `find_moved`

@@ -25,6 +25,7 @@ module _ {A B S T : Type 0} (first : (A → Option Answer) → Option Answer) (n
   halts : (halt : Halt) → InHand (GoesOn first value) (Err halt) → InHand (GoesOn (λ go. first (λ a. next a go)) behind) (Err halt)
   halts Usage goes = goes
   halts (Refused (refusal.Program kind line column)) goes = λ go. goes (λ a. next a go)
+  halts (Refused (refusal.Object kind)) goes = λ go. goes (λ a. next a go)
   halts (Refused (refusal.Input fault)) goes = λ go. goes (λ a. next a go)
   halts (Refused (refusal.Proof cause)) goes = goes
   halts ReadFault goes = goes
@@ -39,6 +40,7 @@ module _ {A T : Type 0} (step other : (A → Option Answer) → Option Answer) (
   goes_as (Ok t) goes = λ go. same go ∙ goes go
   goes_as (Err Usage) goes = goes
   goes_as (Err (Refused (refusal.Program kind line column))) goes = λ go. same go ∙ goes go
+  goes_as (Err (Refused (refusal.Object kind))) goes = λ go. same go ∙ goes go
   goes_as (Err (Refused (refusal.Input fault))) goes = λ go. same go ∙ goes go
   goes_as (Err (Refused (refusal.Proof cause))) goes = goes
   goes_as (Err ReadFault) goes = goes
@@ -52,6 +54,7 @@ unfound step value go result halt is goes = subst (InHand (FindsLines (step go))
     by : (halt : Halt) → InHand (GoesOn step value) (Err halt) → InHand (FindsLines (step go)) (Err halt)
     by Usage goes = goes
     by (Refused (refusal.Program kind line column)) goes = goes go
+    by (Refused (refusal.Object kind)) goes = goes go
     by (Refused (refusal.Input fault)) goes = goes go
     by (Refused (refusal.Proof cause)) goes = goes
     by ReadFault goes = goes
@@ -64,6 +67,7 @@ unfound_for step Stands go result halt is goes = subst (InHand (FindsLines (step
     by : (halt : Halt) → InHand (GoesOnFor step Stands) (Err halt) → InHand (FindsLines (step go)) (Err halt)
     by Usage goes = goes
     by (Refused (refusal.Program kind line column)) goes = goes go
+    by (Refused (refusal.Object kind)) goes = goes go
     by (Refused (refusal.Input fault)) goes = goes go
     by (Refused (refusal.Proof cause)) goes = goes
     by ReadFault goes = goes
@@ -80,6 +84,7 @@ pub hand_possible : (command : Command) (Says : Found → Type 0) (found : Found
 hand_possible command Says (Ok report) runs program finds ending = outcome_possible command runs (ending_status report.ending) ending
 hand_possible command Says (Err Usage) runs program finds ending = finds
 hand_possible command Says (Err (Refused (refusal.Program kind line column))) runs program finds ending = program
+hand_possible command Says (Err (Refused (refusal.Object kind))) runs program finds ending = program
 hand_possible command Says (Err (Refused (refusal.Input fault))) runs program finds ending = tt
 hand_possible command Says (Err (Refused (refusal.Proof cause))) runs program finds ending = absurd finds
 hand_possible command Says (Err ReadFault) runs program finds ending = absurd finds
@@ -95,6 +100,7 @@ module _ (answer : Option Answer) where
   output_found (Ok report) finds = (finds.0, finds.1, record { status = finds.2.status; lines = finds.2.lines; stored = finds.2.stored })
   output_found (Err Usage) finds = absurd finds
   output_found (Err (Refused (refusal.Program kind line column))) finds = finds
+  output_found (Err (Refused (refusal.Object kind))) finds = finds
   output_found (Err (Refused (refusal.Input fault))) finds = finds
   output_found (Err (Refused (refusal.Proof cause))) finds = absurd finds
   output_found (Err ReadFault) finds = absurd finds
@@ -104,6 +110,7 @@ module _ (answer : Option Answer) where
   output_cause (Ok report) faults finds = refl
   output_cause (Err Usage) faults finds = absurd finds
   output_cause (Err (Refused (refusal.Program kind line column))) faults finds = refl
+  output_cause (Err (Refused (refusal.Object kind))) faults finds = refl
   output_cause (Err (Refused (refusal.Input fault))) faults finds = refl
   output_cause (Err (Refused (refusal.Proof cause))) faults finds = absurd finds
   output_cause (Err ReadFault) faults finds = absurd finds

@@ -81,6 +81,7 @@ pub goes_on_behind : {A B T : Type 0} (first : (A → Option Answer) → Option 
 goes_on_behind first a next value (Ok t) is goes = λ go. is (λ a. next a go) ∙ goes go
 goes_on_behind first a next value (Err Usage) is goes = absurd goes
 goes_on_behind first a next value (Err (Refused (refusal.Program kind line column))) is goes = λ go. halts_behind _ _ (Refused (refusal.Program kind line column)) (is (λ a. next a go)) (goes go)
+goes_on_behind first a next value (Err (Refused (refusal.Object kind))) is goes = λ go. halts_behind _ _ (Refused (refusal.Object kind)) (is (λ a. next a go)) (goes go)
 goes_on_behind first a next value (Err (Refused (refusal.Input fault))) is goes = λ go. halts_behind _ _ (Refused (refusal.Input fault)) (is (λ a. next a go)) (goes go)
 goes_on_behind first a next value (Err (Refused (refusal.Proof why))) is goes = absurd goes
 goes_on_behind first a next value (Err ReadFault) is goes = absurd goes

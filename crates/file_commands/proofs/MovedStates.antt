@@ -127,6 +127,7 @@ not_loaded {T = T} q bytes v Stands name answer halt result err is goes = subst 
     by : (halt : Halt) → InHand (GoesOnFor (with_image q bytes) Stands) (Err halt) → InHand (FindsOutput name answer) (Err halt)
     by Usage goes = absurd goes
     by (Refused (refusal.Program kind line column)) goes = absurd (none _ (goes (λ v. None)))
+    by (Refused (refusal.Object kind)) goes = absurd (none _ (goes (λ v. None)))
     by (Refused (refusal.Input fault)) goes = absurd (none _ (goes (λ v. None)))
     by (Refused (refusal.Proof cause)) goes = absurd goes
     by ReadFault goes = absurd goes

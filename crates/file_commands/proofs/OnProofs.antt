@@ -18,7 +18,7 @@ use Rattle.file_commands.specs.Answer.{role_verdict, state_read}
 use Rattle.file_commands.specs.FueledRoles.{FueledRole}
 use Rattle.file_commands.specs.RoleCalls.{kind_called, named_literal, program_called, type_passed}
 use Rattle.file_commands.specs.VerdictLaws.{VerdictsAreOnProofs}
-use Rattle.file_commands.proofs.SoundTexts.{sound_format, text_is_sound}
+use Rattle.file_commands.proofs.SoundFiles.{file_is_sound, sound_format}
 
 -- what is passed to a role that reads a state is its second parameter
 behind_state : (kind : Kind) → ReadsState kind → argument_place kind ≡ 1
@@ -42,7 +42,7 @@ pub verdicts_are_on_proofs : VerdictsAreOnProofs
 unfolding role_verdict named_literal state_read
 verdicts_are_on_proofs program r is reads state s rest place state_is argument a argument_is proof =
     let P = program_called r in
-    let fits : P.format.limit < 2 ^ 32 = (sound_format P (text_is_sound program P is)).limit_fits in
+    let fits : P.format.limit < 2 ^ 32 = (sound_format P (file_is_sound program P is)).limit_fits in
     let written : IsLiteralValue P (type_passed r) a = literals_are_read_back P fits r.program.names (type_passed r) argument a argument_is in
     subst (λ t. IsOnProof (verdict sha256 P t r.role state (spelling a) r.fuel proof)) (passed_behind r reads)
     (both_read P (type_passed r) state (spelling a) s a rest [] place written.read_back.0 state_is written.read_back.1 r.role r.fuel proof)

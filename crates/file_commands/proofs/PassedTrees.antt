@@ -1,5 +1,5 @@
--- A tree that passes: that it passes the first two passes, and the format and the types of its program.
-use Rattle.std.proofs.Common.{◌≡◌, ℕ, List, refl, sym, ap, ◌∙◌, subst}
+-- A tree that passes: that it passes the first two passes, and the format and the types of its program, which is written.
+use Rattle.std.proofs.Common.{◌≡◌, ℕ, List, None, refl, ap, subst}
 use Rattle.core_terms.specs.Terms.{Program}
 use Rattle.auth_syntax.specs.Syntax as syntax
 use Rattle.auth_syntax.specs.Parsing.{Parsed, Tree, FirstFault, parsed}
@@ -15,6 +15,7 @@ pub record Passes (tree : syntax.Program) (P : Program) : Type 0 where
   pub second : second_pass tree ≡ Sound tt
   pub format : P.format ≡ program_format tree
   pub types : P.types ≡ table_of_program tree
+  pub written : P.code ≡ None
 
 -- a tree that gives a program
 checked_is : (found : Checked) (P : Program) → of_checked found ≡ IsProgram P → found ≡ checking.IsProgram P
@@ -32,7 +33,7 @@ module _ (tree : syntax.Program) (P : Program) where
   behind (FaultAt kind at) go is = absurd (cc)
 
   abbrev IsMade : Checking Program → Type 0
-  IsMade (Sound P) = (P.format ≡ program_format tree) × (P.types ≡ table_of_program tree)
+  IsMade (Sound P) = (P.format ≡ program_format tree) × (P.types ≡ table_of_program tree) × (P.code ≡ None)
   IsMade (FaultAt kind at) = Unit {0}
 
   pub passes : all_passes tree ≡ Sound P → Passes tree P
@@ -41,8 +42,8 @@ module _ (tree : syntax.Program) (P : Program) where
       let second = behind (second_pass tree) _ first.2 in
       let third = behind (third_pass tree) _ second.2 in
       let fourth = behind (fourth_pass tree) _ third.2 in
-      let made = subst IsMade fourth.2 (refl, refl) in
-      record { first = first.1; second = second.1; format = made.0; types = made.1 }
+      let made = subst IsMade fourth.2 (refl, refl, refl) in
+      record { first = first.1; second = second.1; format = made.0; types = made.1; written = made.2 }
 
   pub checked_passes : checked tree ≡ checking.IsProgram P → all_passes tree ≡ Sound P
   unfolding checked
@@ -65,3 +66,7 @@ text_of_program text P e = by (parsed text) refl e
         let found = checked_is (checked tree) P e in
         record { tree = tree; parsed = is; checked = found; passed = checked_passes tree P found; declared = ap types_text_of_parsed is }
     by (FirstFault kind at) is e = absurd (cc)
+
+-- it is no compiled program
+pub text_is_written : (text : List ℕ) (P : Program) → program_of_text text ≡ IsProgram P → P.code ≡ None
+text_is_written text P e = let found = text_of_program text P e in (passes found.tree P found.passed).written

@@ -67,6 +67,7 @@ module _ {A T : Type 0} (step : (A → Option Answer) → Option Answer) (value 
   pub hand_halt_possible : (halt : Halt) → InHand (GoesOn step value) (Err halt) → MayAnswer command (halt_status halt)
   hand_halt_possible Usage goes = absurd goes
   hand_halt_possible (Refused (refusal.Program kind line column)) goes = absurd (no_program (inputs _ (goes (λ x. None))))
+  hand_halt_possible (Refused (refusal.Object kind)) goes = absurd (no_program (inputs _ (goes (λ x. None))))
   hand_halt_possible (Refused (refusal.Input fault)) goes = tt
   hand_halt_possible (Refused (refusal.Proof why)) goes = absurd goes
   hand_halt_possible ReadFault goes = absurd goes
@@ -82,6 +83,7 @@ module _ (command : Command) (reads : ReadsFiles command) (program : ReadsAProgr
   halt_possible : (before now : ℕ) (halt : Halt) → MayHalt before now halt → MayAnswer command (halt_status halt)
   halt_possible before now Usage cause = cause
   halt_possible before now (Refused (refusal.Program kind line column)) cause = program
+  halt_possible before now (Refused (refusal.Object kind)) cause = program
   halt_possible before now (Refused (refusal.Input fault)) cause = tt
   halt_possible before now (Refused (refusal.Proof why)) cause = absurd cause
   halt_possible before now ReadFault cause = reads
@@ -102,6 +104,7 @@ module _ (command : Command) (reads : ReadsFiles command) (program : ReadsAProgr
   judged_possible judges before now (Ok report) cause ending = ending
   judged_possible judges before now (Err Usage) cause ending = cause
   judged_possible judges before now (Err (Refused (refusal.Program kind line column))) cause ending = program
+  judged_possible judges before now (Err (Refused (refusal.Object kind))) cause ending = program
   judged_possible judges before now (Err (Refused (refusal.Input fault))) cause ending = tt
   judged_possible judges before now (Err (Refused (refusal.Proof why))) cause ending = judges
   judged_possible judges before now (Err ReadFault) cause ending = reads

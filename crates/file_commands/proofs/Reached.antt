@@ -131,6 +131,7 @@ module _ (answer : Contents → Option Answer) (contents : Option Contents) (ask
   halt_reached : (halt : Halt) → halt_status halt ≡ status.ReadFault → HaltsAtReached answer contents asked halt → IsReached answer contents asked
   halt_reached Usage is faults = absurd (cc)
   halt_reached (Refused (refusal.Program kind line column)) is faults = absurd (cc)
+  halt_reached (Refused (refusal.Object kind)) is faults = absurd (cc)
   halt_reached (Refused (refusal.Input fault)) is faults = absurd (cc)
   halt_reached (Refused (refusal.Proof why)) is faults = absurd (cc)
   halt_reached ReadFault is faults = faults

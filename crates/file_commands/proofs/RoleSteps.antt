@@ -24,6 +24,7 @@ module _ {A T : Type 0} (step : (A → Option Answer) → Option Answer) (Stands
   pub in_hand : (halt : Halt) → IsInHand halt → ((go : A → Option Answer) → HaltsAs (step go) halt) → InHand (GoesOnFor step Stands) (Err halt)
   in_hand Usage is halts = is
   in_hand (Refused (refusal.Program kind line column)) is halts = halts
+  in_hand (Refused (refusal.Object kind)) is halts = halts
   in_hand (Refused (refusal.Input fault)) is halts = halts
   in_hand (Refused (refusal.Proof cause)) is halts = is
   in_hand ReadFault is halts = is
@@ -32,6 +33,7 @@ module _ {A T : Type 0} (step : (A → Option Answer) → Option Answer) (Stands
   pub halts_in_hand : (halt : Halt) → InHand (GoesOnFor step Stands) (Err halt) → IsInHand halt × ((go : A → Option Answer) → HaltsAs (step go) halt)
   halts_in_hand Usage goes = absurd goes
   halts_in_hand (Refused (refusal.Program kind line column)) goes = (tt, goes)
+  halts_in_hand (Refused (refusal.Object kind)) goes = (tt, goes)
   halts_in_hand (Refused (refusal.Input fault)) goes = (tt, goes)
   halts_in_hand (Refused (refusal.Proof cause)) goes = absurd goes
   halts_in_hand ReadFault goes = absurd goes
@@ -46,6 +48,7 @@ module _ {A T : Type 0} (step : (A → Option Answer) → Option Answer) (Stands
   cause_in_hand before now (Ok t) goes same = same
   cause_in_hand before now (Err Usage) goes same = absurd goes
   cause_in_hand before now (Err (Refused (refusal.Program kind line column))) goes same = same
+  cause_in_hand before now (Err (Refused (refusal.Object kind))) goes same = same
   cause_in_hand before now (Err (Refused (refusal.Input fault))) goes same = same
   cause_in_hand before now (Err (Refused (refusal.Proof cause))) goes same = absurd goes
   cause_in_hand before now (Err ReadFault) goes same = absurd goes
@@ -65,6 +68,7 @@ module _ {A T : Type 0} (step : (A → Option Answer) → Option Answer) (Stands
     same_in_hand (Ok t) goes = (goes.0, (λ go. same go ∙ goes.1 go), goes.2)
     same_in_hand (Err Usage) goes = goes
     same_in_hand (Err (Refused (refusal.Program kind line column))) goes = λ go. same go ∙ goes go
+    same_in_hand (Err (Refused (refusal.Object kind))) goes = λ go. same go ∙ goes go
     same_in_hand (Err (Refused (refusal.Input fault))) goes = λ go. same go ∙ goes go
     same_in_hand (Err (Refused (refusal.Proof cause))) goes = goes
     same_in_hand (Err ReadFault) goes = goes
@@ -75,6 +79,7 @@ module _ {A B S T : Type 0} (first : (A → Option Answer) → Option Answer) (n
   hand_halt_for : (halt : Halt) → InHand (GoesOn first value) (Err halt) → InHand (GoesOnFor (λ go. first (λ a. next a go)) Stands) (Err halt)
   hand_halt_for Usage goes = goes
   hand_halt_for (Refused (refusal.Program kind line column)) goes = λ go. goes (λ a. next a go)
+  hand_halt_for (Refused (refusal.Object kind)) goes = λ go. goes (λ a. next a go)
   hand_halt_for (Refused (refusal.Input fault)) goes = λ go. goes (λ a. next a go)
   hand_halt_for (Refused (refusal.Proof cause)) goes = goes
   hand_halt_for ReadFault goes = goes
@@ -103,6 +108,7 @@ hand_unfound name step Stands go result halt is goes = subst (InHand (FindsOutpu
     by : (halt : Halt) → InHand (GoesOnFor step Stands) (Err halt) → InHand (FindsOutput name (step go)) (Err halt)
     by Usage goes = goes
     by (Refused (refusal.Program kind line column)) goes = goes go
+    by (Refused (refusal.Object kind)) goes = goes go
     by (Refused (refusal.Input fault)) goes = goes go
     by (Refused (refusal.Proof cause)) goes = goes
     by ReadFault goes = goes

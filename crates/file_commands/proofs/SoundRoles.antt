@@ -31,7 +31,7 @@ use Rattle.file_commands.specs.SoundPrograms.{IsSound}
 use Rattle.file_commands.specs.declared.roles.Callee.{Callee}
 use Rattle.file_commands.proofs.RoleShapes.{calls_reads}
 use Rattle.file_commands.proofs.RolesByName.{role_within}
-use Rattle.file_commands.proofs.SoundTexts.{sound_format, text_is_sound}
+use Rattle.file_commands.proofs.SoundFiles.{file_is_sound, sound_format}
 use Rattle.fetched_verdicts.proofs.TrueOverStores.{true_over}
 
 -- the roles that `verify` calls read a state
@@ -75,7 +75,7 @@ pub named_reader : (callee : Callee) → CallsOnStates callee → (program role 
     → IsReader (program_called r) r.role
 named_reader callee on_states program role fuel files r names =
     let P = program_called r in
-    reader P r.role (text_is_sound names.program_file.text P names.program_file.program) (role_within P role r.role names.role)
+    reader P r.role (file_is_sound names.program_file.bytes P names.program_file.program) (role_within P role r.role names.role)
     (calls_reads callee (kind_called r) on_states names.called)
 
 -- what is accepted of a call is true, or there is a split
@@ -104,7 +104,7 @@ pub sound_whole : (P : Program) → IsSound P → IsOfWhole sha256 P
 sound_whole P sound = λ t bytes. subst (λ (F : Format). F.digest sha256 t bytes ≡ sha256 (unwrap_or (F.print sha256 t) [] ++ bytes)) (sym sound.format.2) refl
 
 pub named_whole : (callee : Callee) (program role fuel : List ℕ) (files : Contents) (r : FueledRole) → NamesRole callee program role fuel files r → IsOfWhole sha256 (program_called r)
-named_whole callee program role fuel files r names = sound_whole (program_called r) (text_is_sound names.program_file.text (program_called r) names.program_file.program)
+named_whole callee program role fuel files r names = sound_whole (program_called r) (file_is_sound names.program_file.bytes (program_called r) names.program_file.program)
 
 -- what is accepted of a call over a mirror is true, or there is a split
 pub reader_fetched : (r : FueledRole) (state argument : Value) (pieces : List (List ℕ)) (o : Outcome) → IsReader (program_called r) r.role → IsOfWhole sha256 (program_called r)

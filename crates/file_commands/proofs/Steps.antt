@@ -49,6 +49,7 @@ pub goes_behind : {A B T : Type 0} (first : (A → Option Answer) → Option Ans
 goes_behind first a next Stands (Ok t) is goes = (goes.0, (λ go. is (λ a. next a go) ∙ goes.1 go), goes.2)
 goes_behind first a next Stands (Err Usage) is goes = absurd goes
 goes_behind first a next Stands (Err (Refused (refusal.Program kind line column))) is goes = λ go. halts_behind _ _ (Refused (refusal.Program kind line column)) (is (λ a. next a go)) (goes go)
+goes_behind first a next Stands (Err (Refused (refusal.Object kind))) is goes = λ go. halts_behind _ _ (Refused (refusal.Object kind)) (is (λ a. next a go)) (goes go)
 goes_behind first a next Stands (Err (Refused (refusal.Input fault))) is goes = λ go. halts_behind _ _ (Refused (refusal.Input fault)) (is (λ a. next a go)) (goes go)
 goes_behind first a next Stands (Err (Refused (refusal.Proof cause))) is goes = absurd goes
 goes_behind first a next Stands (Err ReadFault) is goes = absurd goes
@@ -70,6 +71,7 @@ follows_on first a next value (Err halt) is goes = λ go. halts_behind _ _ halt 
 pub hand_halts : {A T : Type 0} (step : (A → Option Answer) → Option Answer) (value : T → A) (halt : Halt) → InHand (GoesOn step value) (Err halt) → (go : A → Option Answer) → HaltsAs (step go) halt
 hand_halts step value Usage goes = absurd goes
 hand_halts step value (Refused (refusal.Program kind line column)) goes = goes
+hand_halts step value (Refused (refusal.Object kind)) goes = goes
 hand_halts step value (Refused (refusal.Input fault)) goes = goes
 hand_halts step value (Refused (refusal.Proof cause)) goes = absurd goes
 hand_halts step value ReadFault goes = absurd goes
@@ -119,6 +121,7 @@ image_refused_for p bytes Stands fault (Err h) halt is = by h (image_refused {T 
     by : (h : Halt) → InHand (GoesOn {T = Value} (with_image p bytes) (λ v. v)) (Err h) → InHand (GoesOnFor (with_image p bytes) Stands) (Err h)
     by Usage goes = absurd goes
     by (Refused (refusal.Program kind line column)) goes = goes
+    by (Refused (refusal.Object kind)) goes = goes
     by (Refused (refusal.Input fault)) goes = goes
     by (Refused (refusal.Proof cause)) goes = absurd goes
     by ReadFault goes = absurd goes
@@ -137,6 +140,7 @@ hand_halt name step value go result halt is goes = subst (InHand (FindsOutput na
     by : (halt : Halt) → InHand (GoesOn step value) (Err halt) → InHand (FindsOutput name (step go)) (Err halt)
     by Usage goes = absurd goes
     by (Refused (refusal.Program kind line column)) goes = goes go
+    by (Refused (refusal.Object kind)) goes = goes go
     by (Refused (refusal.Input fault)) goes = goes go
     by (Refused (refusal.Proof cause)) goes = absurd goes
     by ReadFault goes = absurd goes
@@ -147,6 +151,7 @@ pub hand_found : (name : List ℕ) (answer : Option Answer) (result : Result Out
 hand_found name answer (Ok output) finds = finds
 hand_found name answer (Err Usage) finds = absurd finds
 hand_found name answer (Err (Refused (refusal.Program kind line column))) finds = finds
+hand_found name answer (Err (Refused (refusal.Object kind))) finds = finds
 hand_found name answer (Err (Refused (refusal.Input fault))) finds = finds
 hand_found name answer (Err (Refused (refusal.Proof cause))) finds = absurd finds
 hand_found name answer (Err ReadFault) finds = absurd finds
@@ -157,6 +162,7 @@ pub hand_cause : (answer : List ℕ → Option Answer) (result : Result Output H
 hand_cause answer (Ok output) before now finds same = same
 hand_cause answer (Err Usage) before now finds same = absurd (finds [])
 hand_cause answer (Err (Refused (refusal.Program kind line column))) before now finds same = same
+hand_cause answer (Err (Refused (refusal.Object kind))) before now finds same = same
 hand_cause answer (Err (Refused (refusal.Input fault))) before now finds same = same
 hand_cause answer (Err (Refused (refusal.Proof cause))) before now finds same = absurd (finds [])
 hand_cause answer (Err ReadFault) before now finds same = absurd (finds [])

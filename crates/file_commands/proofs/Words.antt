@@ -4,7 +4,7 @@ use Rattle.std.specs.Borrow.{Bor}
 use Rattle.std.proofs.lemmas.List.{length-map}
 use Rattle.command_words.specs.Commands.{IsOfCommand, texts}
 use Rattle.command_words.specs.declared.command.Command.{Command}
-use Rattle.command_words.specs.declared.command.Command.TheVariants.{Check, Init, Ideal, Step, Shallow, Migrate, Prove, Verify, Audit, Library, Gen, Serve, Ask, Pieces, Fetch, Mirror, Draw, Found, Host, Replay}
+use Rattle.command_words.specs.declared.command.Command.TheVariants.{Check, Init, Ideal, Step, Shallow, Migrate, Prove, Verify, Audit, Library, Gen, Serve, Ask, Pieces, Fetch, Mirror, Draw, Found, Host, Replay, Emit}
 use Rattle.file_commands.specs.Answer.{answer_with, judged_answer}
 use Rattle.lam_outside.specs.Told.{Contents, Names}
 use Rattle.file_commands.specs.Ending.{EndsAs, EndsOnSink, Outside, with_sink}
@@ -75,6 +75,7 @@ least_of Draw = 6
 least_of Found = 3
 least_of Host = 5
 least_of Replay = 3
+least_of Emit = 2
 
 abbrev pub most_of : Command → ℕ
 most_of Verify = 7
@@ -110,7 +111,8 @@ within command words of = subst (λ n. AreSoMany n command) (length-map words (�
     by (inr (inr (inr (inr (inr (inr (inr (inr (inr (inr (inr (inr (inr (inr (inr (inr (inr (inl (is, (least, most)))))))))))))))))))) = subst (AreSoMany n) is (least, most)
     by (inr (inr (inr (inr (inr (inr (inr (inr (inr (inr (inr (inr (inr (inr (inr (inr (inr (inr (inl (is, (least, most))))))))))))))))))))) = subst (AreSoMany n) is (least, most)
     by (inr (inr (inr (inr (inr (inr (inr (inr (inr (inr (inr (inr (inr (inr (inr (inr (inr (inr (inr (inl (is, (least, most)))))))))))))))))))))) = subst (AreSoMany n) is (least, most)
-    by (inr (inr (inr (inr (inr (inr (inr (inr (inr (inr (inr (inr (inr (inr (inr (inr (inr (inr (inr (inr is)))))))))))))))))))) = absurd is
+    by (inr (inr (inr (inr (inr (inr (inr (inr (inr (inr (inr (inr (inr (inr (inr (inr (inr (inr (inr (inr (inl (is, (least, most))))))))))))))))))))))) = subst (AreSoMany n) is (least, most)
+    by (inr (inr (inr (inr (inr (inr (inr (inr (inr (inr (inr (inr (inr (inr (inr (inr (inr (inr (inr (inr (inr is))))))))))))))))))))) = absurd is
 
 pub counted : (command : Command) (words : List (Bor (List ℕ))) → most_of command ≡ least_of command → IsOfCommand command (texts words) → length words ≡ least_of command
 counted command words same of = let so_many = within command words of in let low = so_many.0 in let high = so_many.1 in omega (arith, low, high, same)

@@ -3,7 +3,7 @@ use Rattle.std.specs.Prelude.{ℕ, List, [], ◌∷◌, ◌++◌, length, map, B
 use Rattle.sha2.specs.Sha256.{sha256}
 use Rattle.command_words.specs.Invocations.{Invocation, invocation_of}
 use Rattle.command_words.specs.declared.command.Command.{Command}
-use Rattle.command_words.specs.declared.command.Command.TheVariants.{Check, Init, Ideal, Step, Shallow, Migrate, Prove, Verify, Audit, Library, Gen, Serve, Ask, Pieces, Fetch, Mirror, Draw, Found, Host, Replay}
+use Rattle.command_words.specs.declared.command.Command.TheVariants.{Check, Init, Ideal, Step, Shallow, Migrate, Prove, Verify, Audit, Library, Gen, Serve, Ask, Pieces, Fetch, Mirror, Draw, Found, Host, Replay, Emit}
 use Rattle.ads_library.specs.Texts.{library_text}
 use Rattle.lam_outside.specs.Told.{Contents, Stores}
 use Rattle.core_terms.specs.ProgramFormats.{most_kept_pieces}
@@ -19,6 +19,7 @@ use Rattle.printed_syntax.specs.declared.fault.LiteralKind.TheVariants.{Mismatch
 use Rattle.ideal_meaning.specs.Ideal as ideal
 use Rattle.ideal_meaning.specs.Checked as checked
 use Rattle.ideal_meaning.specs.Checked.{verdict}
+use Rattle.object_meaning.specs.WrittenObjects.{written}
 use Rattle.images.specs.Images as images
 use Rattle.images.specs.SavedImages.{saved_image}
 use Rattle.piece_mirror.specs.Answers.{given_by}
@@ -31,7 +32,7 @@ use Rattle.printed_lines.specs.declared.refusal.Argument.TheVariants as named
 use Rattle.printed_lines.specs.declared.refusal.ImageKind.{ImageKind}
 use Rattle.printed_lines.specs.declared.refusal.ImageKind.TheVariants as kind
 use Rattle.printed_lines.specs.declared.refusal.InputFault.{InputFault}
-use Rattle.printed_lines.specs.declared.refusal.InputFault.TheVariants.{TooLong, LibraryUnknown, Migration, RoleUnknown, RoleKind, Number, State, Literal as BadLiteral, Image as BadImage, Mirror as BadMirror, Script as BadScript}
+use Rattle.printed_lines.specs.declared.refusal.InputFault.TheVariants.{TooLong, LibraryUnknown, Migration, ObjectFormat, RoleUnknown, RoleKind, Number, State, Literal as BadLiteral, Image as BadImage, Mirror as BadMirror, Script as BadScript}
 use Rattle.printed_lines.specs.declared.refusal.MigrationKind.{MigrationKind}
 use Rattle.printed_lines.specs.declared.refusal.MigrationKind.TheVariants as migration
 use Rattle.printed_lines.specs.declared.refusal.MirrorKind.{MirrorKind}
@@ -47,10 +48,12 @@ use Rattle.workloads.specs.declared.workload.Workload.{Workload}
 use Rattle.file_commands.specs.Arguments.{fuel_of, most_links, most_port, most_rounds, most_seed, most_slice, positive_within}
 use Rattle.number_words.specs.Numbers.{number_within}
 use Rattle.fetched_verdicts.specs.Verdicts.{verdict_over}
-use Rattle.file_commands.specs.FueledRoles.{DeclaredProgram, DigestedProgram, FueledRole, NamedProgram}
+use Rattle.file_commands.specs.FilePrograms.{begins_as_object, constructor_names_of_file, longest_program, program_of_file}
+pub use Rattle.file_commands.specs.FilePrograms.{max_program}
+use Rattle.file_commands.specs.FueledRoles.{DeclaredProgram, DigestedProgram, FueledRole, ListedProgram, NamedProgram}
 use Rattle.file_commands.specs.IdealCalls.{IdealCall, call_audit, call_proof, call_proof_line, ended_call, projected_outcome}
 use Rattle.file_commands.specs.RoleCalls.{EndedRole, ended_with, is_called, kind_called, passed_literal, program_called, projection_called, result_called, state_made}
-use Rattle.file_commands.specs.TextPrograms.{TextProgram, IsProgram, IsRefused, constructor_names_of_text, program_of_text, types_text_of_text}
+use Rattle.file_commands.specs.TextPrograms.{FileProgram, IsProgram, IsRefused, constructor_names_of_text, constructors_of_text, program_of_text, types_text_of_text}
 use Rattle.file_commands.specs.declared.roles.Callee.{Callee}
 use Rattle.file_commands.specs.declared.roles.Callee.TheVariants as callee
 use Rattle.file_commands.specs.declared.status.Status.{Status}
@@ -70,9 +73,10 @@ says status line = record { status = status; lines = line ∷ []; stored = [] }
 abbrev pub usage_answer : Answer
 usage_answer = says Usage (codes "usage: lamauth COMMAND ARGUMENTS\n")
 
--- what is answered to what is refused: a text that is no program, an input, or a proof
+-- what is answered to what is refused: a text or an object that is no program, an input, or a proof
 abbrev pub refusal_status : Refusal → Status
 refusal_status (refusal.Program kind line column) = ProgramRefused
+refusal_status (refusal.Object kind) = ProgramRefused
 refusal_status (refusal.Input fault) = InputRefused
 refusal_status (refusal.Proof cause) = Rejected
 
@@ -90,10 +94,7 @@ verdict_answer told (checked.BadArgument offset) = input_refused (BadLiteral Mis
 verdict_answer told (checked.Rejected cause) = says Rejected (rejected_line cause)
 verdict_answer told (checked.Accepted o) = told o
 
--- the longest text of a program, and the longest of all other files
-abbrev pub max_program : ℕ
-max_program = 262144
-
+-- the longest file that is no program
 abbrev pub max_file : ℕ
 max_file = 67108864
 
@@ -108,23 +109,30 @@ abbrev pub with_bytes : Option (List ℕ) → (List ℕ → Option Answer) → O
 with_bytes None go = None
 with_bytes (Some bytes) go = go bytes
 
--- goes on with the program that a text with this digest is
-abbrev pub with_program : List ℕ → TextProgram → (DigestedProgram → Option Answer) → Option Answer
+-- goes on with the program that bytes with this digest are
+abbrev pub with_program : List ℕ → FileProgram → (DigestedProgram → Option Answer) → Option Answer
 with_program digest (IsProgram P) go = go (record { program = P; digest = digest })
-with_program digest (IsRefused kind line column) go = Some (refused (refusal.Program kind line column))
+with_program digest (IsRefused what) go = Some (refused what)
 
--- goes on with the program that a text is, and with that in a file
+-- goes on with the program that a text is
 abbrev pub with_text : List ℕ → (NamedProgram → Option Answer) → Option Answer
 with_text text go =
     with_program (sha256 text) (program_of_text text) (λ p. go (record { digested = p; names = constructor_names_of_text text }))
 
-abbrev pub with_named_file : Argument → Option (List ℕ) → (NamedProgram → Option Answer) → Option Answer
-with_named_file word file go = with_file max_program word file (λ text. with_text text go)
+-- goes on with the bytes of the file `P`, where it isn't too long for what it begins as, an object or a text
+abbrev pub with_program_bytes : Option (List ℕ) → (List ℕ → Option Answer) → Option Answer
+with_program_bytes None go = None
+with_program_bytes (Some bytes) go = if nat_le (length bytes) (longest_program bytes) then go bytes else Some (input_refused (TooLong named.Program))
+
+-- goes on with the program that bytes are, as an object or as a text, and with that in the file `P`
+abbrev pub with_object_or_text : List ℕ → (NamedProgram → Option Answer) → Option Answer
+with_object_or_text bytes go =
+    with_program (sha256 bytes) (program_of_file bytes) (λ p. go (record { digested = p; names = constructor_names_of_file bytes }))
 
 abbrev pub with_program_file : Option (List ℕ) → (NamedProgram → Option Answer) → Option Answer
-with_program_file file go = with_named_file named.Program file go
+with_program_file file go = with_program_bytes file (λ bytes. with_object_or_text bytes go)
 
--- the same with the type declarations of the text
+-- the same with the type declarations of a text: a file is read as one, whatever it begins as
 abbrev pub with_declared_file : Argument → Option (List ℕ) → (DeclaredProgram → Option Answer) → Option Answer
 with_declared_file word file go =
     with_file max_program word file (λ text. with_text text (λ p. go (record { named = p; types_text = types_text_of_text text })))
@@ -189,7 +197,7 @@ with_image_file p file go = with_file max_file named.Image file (λ bytes. with_
 abbrev pub with_image_bytes : DigestedProgram → Option (List ℕ) → (List ℕ → Option Answer) → Option Answer
 with_image_bytes p file go = with_file max_file named.Image file (λ bytes. with_image p bytes (λ v. go bytes))
 
--- `check P`: the digest of the program's text
+-- `check P`: the digest of the program's bytes
 abbrev pub checked_answer : List ℕ → Contents → Option Answer
 checked_answer program files = with_program_file (files program) (λ p. Some (says Done (ok_line p.digested.digest)))
 
@@ -231,6 +239,33 @@ pieces_answer pieces name =
 abbrev pub filed_answer : (program image out : List ℕ) → Contents → Option Answer
 filed_answer program image out files =
     with_program_file (files program) (λ p. with_image_file p.digested (files image) (λ v. Some (pieces_answer (state_pieces p.digested.program v) out)))
+
+-- goes on with a text's program, where the file `P` doesn't begin as an object
+abbrev pub with_listed : List ℕ → (ListedProgram → Option Answer) → Option Answer
+with_listed bytes go =
+    if begins_as_object bytes
+    then Some (input_refused ObjectFormat)
+    else with_text bytes (λ p. go (record { program = p.digested.program; constructors = constructors_of_text bytes }))
+
+abbrev pub with_listed_file : Option (List ℕ) → (ListedProgram → Option Answer) → Option Answer
+with_listed_file file go = with_program_bytes file (λ bytes. with_listed bytes go)
+
+-- the bytes of a program's object; none where it is too long
+unfoldable pub object_written : ListedProgram → Option (List ℕ)
+object_written p = written p.program p.constructors
+
+-- what is answered for an object that is stored under a name, where it isn't too long: nothing is told
+abbrev pub stored_object : Option (List ℕ) → List ℕ → Answer
+stored_object None name = input_refused (TooLong named.Out)
+stored_object (Some object) name = record { status = Done; lines = []; stored = (name, object) ∷ [] }
+
+-- what is answered for a program whose object is stored: it is of the first format
+abbrev pub object_answer : ListedProgram → List ℕ → Answer
+object_answer p name = if p.program.format.arrays then input_refused ObjectFormat else stored_object (object_written p) name
+
+-- `emit P OUT`: the object of a text's program
+abbrev pub emitted_answer : (program out : List ℕ) → Contents → Option Answer
+emitted_answer program out files = with_listed_file (files program) (λ p. Some (object_answer p out))
 
 -- goes on with the role of this number, where it is one that the command calls
 abbrev pub with_role_at : Callee → Program → Option ℕ → (ℕ → Option Answer) → Option Answer
@@ -731,8 +766,8 @@ undrawn_answer program role state argument fuel port files = with_drawing progra
 -- `step P ROLE IMG ARG FUEL OUT`, `shallow P IMG OUT`, `migrate P IMG Q OUT`, `prove P ROLE IMG ARG FUEL N OUT`, `verify P ROLE STATE ARG FUEL PROOF`, or this with `OUT` behind it, `audit P ROLE IMG ARG FUEL PROOF`,
 -- `library NAME`, `gen NAME SEED COUNT N`, `serve P IMG PORT CONNS SLICE OUT` as long as it doesn't listen, `ask P STATE PORT SCRIPT OUT` as
 -- long as it doesn't dial, `pieces P IMG OUT`, `fetch P ROLE STATE ARG FUEL MIRROR`, `mirror MIRROR PORT CONNS` as long as it doesn't listen,
--- `draw P ROLE STATE ARG FUEL PORT` as long as it doesn't dial, and `found P IMG JOURNAL`, `host P JOURNAL PORT CONNS SLICE` and `replay P JOURNAL OUT`
--- as long as they touch no disk. No command is called with more texts or fewer.
+-- `draw P ROLE STATE ARG FUEL PORT` as long as it doesn't dial, `found P IMG JOURNAL`, `host P JOURNAL PORT CONNS SLICE` and `replay P JOURNAL OUT`
+-- as long as they touch no disk, and `emit P OUT`. No command is called with more texts or fewer.
 abbrev pub answer_with : Command → List (List ℕ) → Contents → Option Answer
 answer_with Check (program ∷ []) = checked_answer program
 answer_with Init (program ∷ role ∷ argument ∷ fuel ∷ out ∷ []) = initial_answer program role argument fuel out
@@ -755,6 +790,7 @@ answer_with Draw (program ∷ role ∷ state ∷ argument ∷ fuel ∷ port ∷ 
 answer_with Found (program ∷ image ∷ journal ∷ []) = unfounded_answer program image
 answer_with Host (program ∷ journal ∷ port ∷ links ∷ slice ∷ []) = unhosted_answer program port links slice
 answer_with Replay (program ∷ journal ∷ out ∷ []) = unreplayed_answer program
+answer_with Emit (program ∷ out ∷ []) = emitted_answer program out
 answer_with command texts = λ files. None
 
 abbrev pub command_answer : Invocation → Contents → Option Answer

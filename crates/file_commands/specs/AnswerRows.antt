@@ -6,7 +6,7 @@ use Rattle.auth_syntax.specs.Parsing as parsing
 use Rattle.auth_syntax.specs.Syntax.{Program as ProgramSyntax}
 use Rattle.auth_types.specs.CheckedPrograms.{constructors_in, names_of, table_of_program}
 use Rattle.command_words.specs.Invocations.{Invocation}
-use Rattle.command_words.specs.declared.command.Command.TheVariants.{Check, Init, Ideal, Step, Shallow, Migrate, Prove, Verify, Audit, Library, Gen, Serve, Ask, Pieces, Fetch, Mirror, Draw, Found, Host, Replay}
+use Rattle.command_words.specs.declared.command.Command.TheVariants.{Check, Init, Ideal, Step, Shallow, Migrate, Prove, Verify, Audit, Library, Gen, Serve, Ask, Pieces, Fetch, Mirror, Draw, Found, Host, Replay, Emit}
 use Rattle.core_terms.specs.Formats as formats
 use Rattle.core_terms.specs.Formats.{first_format, second_format}
 use Rattle.core_terms.specs.Programs.{meaning, types_of}
@@ -35,9 +35,10 @@ use Rattle.mode_vm.specs.IdealRuns.{IsOutcome}
 use Rattle.printed_lines.specs.declared.refusal.Argument.{Argument}
 use Rattle.printed_lines.specs.declared.refusal.Argument.TheVariants as named
 use Rattle.printed_lines.specs.declared.refusal.InputFault.{InputFault}
-use Rattle.printed_lines.specs.declared.refusal.InputFault.TheVariants.{TooLong, LibraryUnknown, Migration, RoleUnknown, RoleKind, Number, State, Literal as BadLiteral}
+use Rattle.printed_lines.specs.declared.refusal.InputFault.TheVariants.{TooLong, LibraryUnknown, Migration, ObjectFormat, RoleUnknown, RoleKind, Number, State, Literal as BadLiteral}
 use Rattle.printed_lines.specs.declared.refusal.MigrationKind.{MigrationKind}
 use Rattle.printed_lines.specs.declared.refusal.MigrationKind.TheVariants.{Format, Types}
+use Rattle.printed_lines.specs.declared.refusal.ObjectKind.{ObjectKind}
 use Rattle.printed_lines.specs.declared.refusal.ProgramKind.{ProgramKind}
 use Rattle.printed_lines.specs.declared.refusal.Refusal.TheVariants as refusal
 use Rattle.printed_lines.specs.declared.refusal.Rejection.{Rejection}
@@ -47,16 +48,17 @@ use Rattle.value_store.specs.Nodes.{Node}
 use Rattle.value_store.specs.Standing.{ProverNodes, StandsFor}
 use Rattle.value_store.specs.Stores.{nodes_in, store_lent}
 use Rattle.value_store.specs.declared.node.Ref.{Ref}
-use Rattle.file_commands.specs.Answer.{Answer, Drawing, Founding, Mirroring, answer_with, audited_answer, called_answer, callee_of, checked_answer, command_answer, fetched_answer, filed_answer, first_argument, first_role, first_shared, generated_answer, ideal_answer, initial_answer, input_refused, is_entry, is_get, is_key, is_put, judged_answer, keys_of, library_answer, max_file, max_program, migrated_answer, migration_fault, proved_answer, refusal_status, shallow_told, spelled_answer, spelling_stored, state_image, stepped_answer, storing, unasked_answer, undrawn_answer, unfounded_answer, unhosted_answer, unmirrored_answer, unreplayed_answer, unserved_answer, usage_answer, verdict_answer, with_drawing, with_drawn, with_ended_init, with_file, with_first, with_founding, with_fueled_role, with_image, with_image_bytes, with_mirror_file, with_mirroring, with_no_fault, with_number, with_program_file, with_role_at, with_role_call, with_source, with_state_read}
+use Rattle.file_commands.specs.Answer.{Answer, Drawing, Founding, Mirroring, answer_with, audited_answer, called_answer, callee_of, checked_answer, command_answer, fetched_answer, emitted_answer, filed_answer, first_argument, first_role, first_shared, generated_answer, ideal_answer, initial_answer, input_refused, is_entry, is_get, is_key, is_put, judged_answer, keys_of, library_answer, max_file, max_program, migrated_answer, migration_fault, object_answer, object_written, proved_answer, refusal_status, shallow_told, spelled_answer, spelling_stored, state_image, stepped_answer, stored_object, storing, unasked_answer, undrawn_answer, unfounded_answer, unhosted_answer, unmirrored_answer, unreplayed_answer, unserved_answer, usage_answer, verdict_answer, with_drawing, with_drawn, with_ended_init, with_file, with_first, with_founding, with_fueled_role, with_image, with_image_bytes, with_listed, with_mirror_file, with_mirroring, with_no_fault, with_number, with_program_bytes, with_program_file, with_role_at, with_role_call, with_source, with_state_read, with_text}
 use Rattle.file_commands.specs.CallsInStores.{HoldsCall, HoldsSome}
-use Rattle.file_commands.specs.FueledRoles.{DeclaredProgram, DigestedProgram, FueledRole, NamedProgram}
+use Rattle.file_commands.specs.FilePrograms.{begins_as_object, longest_program}
+use Rattle.file_commands.specs.FueledRoles.{DeclaredProgram, DigestedProgram, FueledRole, ListedProgram, NamedProgram}
 use Rattle.file_commands.specs.IdealCalls.{IdealCall}
 use Rattle.file_commands.specs.MovedStates.{KeepsStates}
 use Rattle.file_commands.specs.ReadPrograms.{ReadsProgram, declared_of}
 use Rattle.file_commands.specs.RoleCalls.{EndedRole, is_called, kind_called, result_called, state_made}
 use Rattle.file_commands.specs.RolesCalled.{CallsOnStates, EndsIn, HasEnded, IsCalled, IsEnded, IsRoleOf, IsStateMade, MakesStates, prover_nodes, role_of}
 use Rattle.file_commands.specs.StoredStates.{IsStoredState}
-use Rattle.file_commands.specs.TextPrograms.{TextProgram, IsProgram, IsRefused, constructors_of_parsed, types_text_of_parsed}
+use Rattle.file_commands.specs.TextPrograms.{FileProgram, IsProgram, IsRefused, constructors_of_parsed, constructors_of_text, types_text_of_parsed}
 use Rattle.file_commands.specs.declared.ideal_calls.IdealCall.{IdealCall as HeldCall}
 use Rattle.file_commands.specs.declared.machine_calls.Ended.{Ended}
 use Rattle.file_commands.specs.declared.programs.ProgramFault.TheVariants as program_fault
@@ -66,9 +68,10 @@ use Rattle.file_commands.specs.declared.roles.Callee.TheVariants as callee
 use Rattle.file_commands.specs.declared.status.Status.TheVariants as status
 
 -- REFUSALS
-pub refusals : (kind : ProgramKind) (line column : ℕ) (fault : InputFault) (cause : Rejection)
-    → map refusal_status (refusal.Program kind line column ∷ refusal.Input fault ∷ refusal.Proof cause ∷ []) ≡ status.ProgramRefused ∷ status.InputRefused ∷ status.Rejected ∷ []
-refusals kind line column fault cause = refl
+pub refusals : (kind : ProgramKind) (line column : ℕ) (of_object : ObjectKind) (fault : InputFault) (cause : Rejection)
+    → map refusal_status (refusal.Program kind line column ∷ refusal.Object of_object ∷ refusal.Input fault ∷ refusal.Proof cause ∷ [])
+    ≡ status.ProgramRefused ∷ status.ProgramRefused ∷ status.InputRefused ∷ status.Rejected ∷ []
+refusals kind line column of_object fault cause = refl
 
 pub verdicts : (told : ideal.Outcome → Answer) (offset : ℕ) (o : ideal.Outcome) → (verdict_answer told (checked.BadState offset) ≡ input_refused (State offset))
     × (verdict_answer told (checked.BadArgument offset) ≡ input_refused (BadLiteral Mismatch offset)) × (verdict_answer told (checked.Accepted o) ≡ told o)
@@ -207,6 +210,9 @@ module _ (p a b c d e f : List ℕ) (files : Contents) where
       × (answer_with Replay (p ∷ a ∷ b ∷ []) files ≡ unreplayed_answer p files)
   on_journals = (refl, refl, refl)
 
+  pub on_objects : answer_with Emit (p ∷ a ∷ []) files ≡ emitted_answer p a files
+  on_objects = refl
+
   -- no command is called with fewer texts, or with more
   pub no_command : (answer_with Check [] files ≡ None) × (answer_with Check (p ∷ a ∷ []) files ≡ None)
   no_command = (refl, refl)
@@ -269,13 +275,35 @@ pub first_versions : (v : Value) → ((first_shared v).versions ≡ v ∷ []) ×
 first_versions v = (refl, refl)
 
 -- PROGRAMS
-module _ {A : Type 0} (means : A → tree.Program) (found : TextProgram) (p : A) (kind : ProgramKind) (line column : ℕ) where
+-- a program's file has a limit by what it begins as; there is no answer where it isn't there
+module _ (bytes : List ℕ) where
+  pub program_bytes : (go : List ℕ → Option Answer) → (with_program_bytes (Some bytes) go ≡ (if nat_le (length bytes) (longest_program bytes) then go bytes else Some (input_refused (TooLong named.Program))))
+      × (with_program_bytes None go ≡ None)
+  program_bytes go = (refl, refl)
+
+  pub listed : (go : ListedProgram → Option Answer) → with_listed bytes go
+      ≡ (if begins_as_object bytes then Some (input_refused ObjectFormat) else with_text bytes (λ p. go (record { program = p.digested.program; constructors = constructors_of_text bytes })))
+  listed go = refl
+
+-- an object is stored without a line, where the program is of the first format and the object not too long
+pub object : (p : ListedProgram) (name : List ℕ) → object_answer p name ≡ (if p.program.format.arrays then input_refused ObjectFormat else stored_object (object_written p) name)
+object p name = refl
+
+pub object_stored : (bytes name : List ℕ) → (stored_object (Some bytes) name ≡ record { status = status.Done; lines = []; stored = (name, bytes) ∷ [] })
+    × (stored_object None name ≡ input_refused (TooLong named.Out))
+object_stored bytes name = (refl, refl)
+
+module _ {A : Type 0} (means : A → tree.Program) (found : FileProgram) (p : A) (kind : ProgramKind) (line column : ℕ) (of_object : ObjectKind) where
   pub reads_program : (ReadsProgram means found (Ok p) → found ≡ IsProgram (means p)) × (found ≡ IsProgram (means p) → ReadsProgram means found (Ok p))
   reads_program = ((λ r. r), (λ e. e))
 
-  pub reads_fault : (ReadsProgram means found (Err (program_fault.At kind line column)) → found ≡ IsRefused kind line column)
-      × (found ≡ IsRefused kind line column → ReadsProgram means found (Err (program_fault.At kind line column)))
+  pub reads_fault : (ReadsProgram means found (Err (program_fault.At kind line column)) → found ≡ IsRefused (refusal.Program kind line column))
+      × (found ≡ IsRefused (refusal.Program kind line column) → ReadsProgram means found (Err (program_fault.At kind line column)))
   reads_fault = ((λ r. r), (λ e. e))
+
+  pub reads_object_fault : (ReadsProgram means found (Err (program_fault.Object of_object)) → found ≡ IsRefused (refusal.Object of_object))
+      × (found ≡ IsRefused (refusal.Object of_object) → ReadsProgram means found (Err (program_fault.Object of_object)))
+  reads_object_fault = ((λ r. r), (λ e. e))
 
   pub reads_nothing : ReadsProgram means found (Err program_fault.NoMemory)
   reads_nothing = tt

@@ -93,17 +93,17 @@ pub calls_prove : (invocation : Invocation) (files : Contents) (call : IdealCall
     × NamesInputs c.image_name c.argument_text files call
 calls_prove invocation files call n out c = (c.words, c.role, c.kept, c.inputs)
 
-pub is_verified : (call : IdealCall) (n : ℕ) (text role argument fuel : List ℕ) → IsVerified call n text role argument fuel
+pub is_verified : (call : IdealCall) (n : ℕ) (bytes role argument fuel : List ℕ) → IsVerified call n bytes role argument fuel
     → (program state proof : List ℕ) (out : Option (List ℕ)) (files : Contents) → is_called (callee_of out) (kind_called call.role) ≡ true
-    → files program ≡ Some text → files state ≡ Some (client_call call).state → files proof ≡ Some (call_proof call n)
+    → files program ≡ Some bytes → files state ≡ Some (client_call call).state → files proof ≡ Some (call_proof call n)
     → judged_answer program role state argument fuel proof out files ≡ Some (accepted_answer call.role out (projected_outcome call))
-is_verified call n text role argument fuel is = is
+is_verified call n bytes role argument fuel is = is
 
 pub is_proved : (invocation : Invocation) (files : Contents) (old new : Outside) (ended : Status) (i : IsProved invocation files old new ended)
     → ((shallow_told i.call.role (projected_outcome i.call)).status ≡ ended)
     × (new.written ≡ append_known old.written (concat ((shallow_told i.call.role (projected_outcome i.call)).lines ++ call_proof_line i.call i.kept ∷ [])))
     × AddsStores old.stores new.stores ((i.out, call_proof i.call i.kept) ∷ []) × IsAcceptedCall i.call i.kept
-    × IsVerified i.call i.kept i.calls.role.program_file.text i.calls.role_name i.calls.argument_text i.calls.fuel_text
+    × IsVerified i.call i.kept i.calls.role.program_file.bytes i.calls.role_name i.calls.argument_text i.calls.fuel_text
 is_proved invocation files old new ended i = (i.status_told, i.written, i.stored, i.accepted, i.verified)
 
 -- STATES AND WORKLOADS

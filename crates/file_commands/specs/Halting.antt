@@ -18,6 +18,8 @@ use Rattle.printed_lines.specs.declared.refusal.InputFault.TheVariants as input_
 use Rattle.printed_lines.specs.declared.refusal.MirrorKind.TheVariants as mirror_kind
 use Rattle.printed_lines.specs.declared.refusal.Refusal.TheVariants as refusal
 use Rattle.printed_lines.specs.declared.refusal.Rejection.TheVariants as rejection
+use Rattle.object_writer.specs.declared.fault.WriteFault.{WriteFault}
+use Rattle.object_writer.specs.declared.fault.WriteFault.TheVariants as write_fault
 use Rattle.piece_mirror.specs.declared.fault.MirrorFault.{MirrorFault}
 use Rattle.piece_mirror.specs.declared.fault.MirrorFault.TheVariants as mirror_fault
 use Rattle.collision_audit.specs.declared.audited.AuditFault.{AuditFault}
@@ -67,9 +69,10 @@ abbrev pub line_of : Found → List ℕ
 line_of (Ok report) = report.text.items
 line_of (Err halt) = halt_line halt
 
--- the halts that faults of a program, of a literal, of an image, of a mirror, of a call and of an audit are
+-- the halts that faults of a program, of a literal, of an image, of an object that is written, of a mirror, of a call and of an audit are
 abbrev pub of_program_fault : ProgramFault → Halt
 of_program_fault (program_fault.At kind line column) = Refused (refusal.Program kind line column)
+of_program_fault (program_fault.Object kind) = Refused (refusal.Object kind)
 of_program_fault program_fault.NoMemory = NoMemory
 
 abbrev pub of_literal_fault : LiteralFault → Halt
@@ -90,6 +93,10 @@ of_image_fault image_fault.NoMemory = NoMemory
 abbrev pub of_save_fault : SaveFault → Halt
 of_save_fault save_fault.TooLong = Refused (refusal.Input (input_fault.TooLong argument.Out))
 of_save_fault save_fault.NoMemory = NoMemory
+
+abbrev pub of_write_fault : WriteFault → Halt
+of_write_fault write_fault.TooLong = Refused (refusal.Input (input_fault.TooLong argument.Out))
+of_write_fault write_fault.NoMemory = NoMemory
 
 abbrev pub of_script_fault : ScriptFault → Halt
 of_script_fault (script_fault.Line number) = Refused (refusal.Input (input_fault.Script number))

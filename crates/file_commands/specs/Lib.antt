@@ -6,6 +6,8 @@ pub mod Codes
 pub mod Ending
 pub mod EndRows
 pub mod FetchedCalls
+pub mod FilePrograms
+pub mod FileRows
 pub mod FetchRows
 pub mod FoundRows
 pub mod FueledRoles

@@ -1,5 +1,5 @@
--- Rows for what a run of `verify` says of the ideal run, and for the programs of texts. What each word takes, and what it refuses.
-use Rattle.std.specs.Prelude.{◌≡◌, ℕ, true, List, [], ◌∷◌, map, drop, Option, Some, None, refl}
+-- Rows for what a run of `verify` says of the ideal run, and for the programs of texts and objects. What each word takes, and what it refuses.
+use Rattle.std.specs.Prelude.{◌≡◌, ◌≤◌, ℕ, true, List, [], ◌∷◌, length, map, drop, Option, Some, None, refl}
 use Rattle.std.specs.List.{concat}
 use Rattle.std.specs.Io.KnownBytes.{append_known}
 use Rattle.std.proofs.Common.{arith, inl, inr}
@@ -22,11 +22,12 @@ use Rattle.sha2.specs.Sha256.{sha256}
 use Rattle.file_commands.specs.Answer.{accepted_answer, callee_of}
 use Rattle.file_commands.specs.Arguments.{fuel_of}
 use Rattle.file_commands.specs.Ending.{Outside}
+use Rattle.file_commands.specs.FilePrograms.{longest_program, program_of_file}
 use Rattle.file_commands.specs.FueledRoles.{FueledRole}
 use Rattle.file_commands.specs.NamedCalls.{named_program}
 use Rattle.file_commands.specs.RoleCalls.{is_called, kind_called, passed_literal, program_called, result_called}
-use Rattle.file_commands.specs.SoundPrograms.{GivesSound, IsOfDeclared, IsOfText, IsOneOfTwo, IsOutcome, IsSound}
-use Rattle.file_commands.specs.TextPrograms.{IsProgram, TextProgram, program_of_text, types_text_of_text}
+use Rattle.file_commands.specs.SoundPrograms.{GivesSound, IsOfDeclared, IsOfTextOrObject, IsOneOfTwo, IsOutcome, IsSound}
+use Rattle.file_commands.specs.TextPrograms.{FileProgram, IsProgram, program_of_text, types_text_of_text}
 use Rattle.file_commands.specs.TrueLines.{CallsVerify, IsTrueLine, TellsOutcome, words_of}
 use Rattle.file_commands.specs.declared.status.Status.TheVariants.{Done, Usage, Trap, OutOfFuel, Rejected, ProgramRefused, InputRefused, ReadFault, WriteFault, NoMemory, Collision}
 
@@ -44,12 +45,12 @@ pub of_outcomes : IsOutcome Done × IsOutcome Trap × IsOutcome OutOfFuel × (Is
     × (IsOutcome ReadFault → ⊥) × (IsOutcome WriteFault → ⊥) × (IsOutcome NoMemory → ⊥) × (IsOutcome Collision → ⊥)
 of_outcomes = (tt, tt, tt, (λ o. o), (λ o. o), (λ o. o), (λ o. o), (λ o. o), (λ o. o), (λ o. o), (λ o. o))
 
--- PROGRAMS OF TEXTS
+-- PROGRAMS OF TEXTS AND OBJECTS
 pub is_sound : (P : Program) (s : IsSound P) → (is_typed P ≡ true) × (is_shaped P ≡ true) × IsOneOfTwo P.format
 is_sound P s = (s.typed, s.shaped, s.format)
 
-pub of_text : (P : Program) (text : List ℕ) → program_of_text text ≡ IsProgram P → IsOfText P
-of_text P text is = (text, is)
+pub of_text_or_object : (P : Program) (of : IsOfTextOrObject P) → (length of.bytes ≤ longest_program of.bytes) × (program_of_file of.bytes ≡ IsProgram P)
+of_text_or_object P of = (of.fits, of.program)
 
 pub of_declared : (P : Program) (text declared : List ℕ) → program_of_text text ≡ IsProgram P → types_text_of_text text ≡ declared → IsOfDeclared declared P
 of_declared P text declared is declares = (text, is, declares)
@@ -58,7 +59,7 @@ of_declared P text declared is declares = (text, is, declares)
 pub one_of_two : (text : List ℕ) → IsOneOfTwo (first_format 1024) × IsOneOfTwo (second_format text 1024)
 one_of_two text = ((First, [], refl), (Second, text, refl))
 
-pub gives_sound : (reading : List ℕ → TextProgram) → GivesSound reading → (text : List ℕ) (P : Program) → reading text ≡ IsProgram P → IsSound P
+pub gives_sound : (reading : List ℕ → FileProgram) → GivesSound reading → (bytes : List ℕ) (P : Program) → reading bytes ≡ IsProgram P → IsSound P
 gives_sound reading gives = gives
 
 -- A RUN OF `verify`
@@ -74,8 +75,8 @@ module _ (line : List (List ℕ)) (files : Contents) (r : FueledRole) (state arg
   words_call c = (c.words, c.role, c.called, c.fuel)
 
   -- what its files hold
-  pub files_hold : (c : CallsVerify line files r state argument proof out) → (files c.program_name ≡ Some c.text) × (program_of_text c.text ≡ IsProgram (program_called r))
-      × (r.program ≡ named_program c.text (program_called r)) × IsIdeal (program_called r).types (program_called r).state state
+  pub files_hold : (c : CallsVerify line files r state argument proof out) → (files c.program_name ≡ Some c.bytes) × (program_of_file c.bytes ≡ IsProgram (program_called r))
+      × (r.program ≡ named_program c.bytes (program_called r)) × IsIdeal (program_called r).types (program_called r).state state
       × (files c.state_name ≡ Some (spelling (projection sha256 (program_called r) (program_called r).state state))) × (files c.proof_name ≡ Some proof)
   files_hold c = (c.program_file, c.program, c.named, c.ideal_state, c.state_file, c.proof_file)
 

@@ -7,25 +7,26 @@ use Rattle.core_terms.specs.Terms.{Program}
 use Rattle.core_terms.specs.Values.{Value}
 use Rattle.printed_syntax.specs.Literals.{IsValue}
 use Rattle.images.specs.Images.{Root}
-use Rattle.file_commands.specs.Answer.{image_read, max_file, max_program}
+use Rattle.file_commands.specs.Answer.{image_read, max_file}
 use Rattle.file_commands.specs.Arguments.{fuel_of}
+use Rattle.file_commands.specs.FilePrograms.{constructor_names_of_file, longest_program, program_of_file}
 use Rattle.file_commands.specs.FueledRoles.{DigestedProgram, FueledRole, NamedProgram}
 use Rattle.file_commands.specs.IdealCalls.{IdealCall}
 use Rattle.file_commands.specs.RoleCalls.{is_called, kind_called, passed_literal, program_called}
-use Rattle.file_commands.specs.TextPrograms.{IsProgram, constructor_names_of_text, program_of_text}
+use Rattle.file_commands.specs.TextPrograms.{IsProgram}
 use Rattle.file_commands.specs.declared.roles.Callee.{Callee}
 
--- a program with the digest of its text and the names of its constructors
+-- a program with the digest of its bytes and the names of its constructors
 abbrev pub named_program : List ℕ → Program → NamedProgram
-named_program text P = record { digested = record { program = P; digest = sha256 text }; names = constructor_names_of_text text }
+named_program bytes P = record { digested = record { program = P; digest = sha256 bytes }; names = constructor_names_of_file bytes }
 
--- a file with the text of this program
+-- a file with this program, as a text or as an object
 pub record KeepsProgram (file : Option (List ℕ)) (p : NamedProgram) : Type 0 where
-  pub text : List ℕ
-  pub there : file ≡ Some text
-  pub fits : length text ≤ max_program
-  pub program : program_of_text text ≡ IsProgram p.digested.program
-  pub named : p ≡ named_program text p.digested.program
+  pub bytes : List ℕ
+  pub there : file ≡ Some bytes
+  pub fits : length bytes ≤ longest_program bytes
+  pub program : program_of_file bytes ≡ IsProgram p.digested.program
+  pub named : p ≡ named_program bytes p.digested.program
 
 -- the role of this name of the program in the file, of a kind that the command calls, with the fuel that the text tells
 pub record NamesRole (callee : Callee) (program_name role_name fuel_text : List ℕ) (files : Contents) (r : FueledRole) : Type 0 where

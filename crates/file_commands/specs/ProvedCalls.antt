@@ -37,13 +37,13 @@ pub record CallsProve (invocation : Invocation) (files : Contents) (call : Ideal
   pub kept : number_within (called_program call).format.most_kept kept_text ≡ Some n
   pub inputs : NamesInputs image_name argument_text files call
 
--- Whatever files hold the text of the program, what `shallow` stores of the state, and this proof: `verify` answers it with the line and
+-- Whatever files hold the bytes of the program, what `shallow` stores of the state, and this proof: `verify` answers it with the line and
 -- the status of the outcome. Of an update, where a name is given for the new state, it stores there the spelling of the new state's
 -- projection.
-abbrev pub IsVerified : (call : IdealCall) → ℕ → (text role argument fuel : List ℕ) → Type 0
-IsVerified call n text role argument fuel =
+abbrev pub IsVerified : (call : IdealCall) → ℕ → (bytes role argument fuel : List ℕ) → Type 0
+IsVerified call n bytes role argument fuel =
     (program state proof : List ℕ) (out : Option (List ℕ)) (files : Contents) → is_called (callee_of out) (kind_called call.role) ≡ true
-    → files program ≡ Some text → files state ≡ Some (client_call call).state → files proof ≡ Some (call_proof call n)
+    → files program ≡ Some bytes → files state ≡ Some (client_call call).state → files proof ≡ Some (call_proof call n)
     → judged_answer program role state argument fuel proof out files ≡ Some (accepted_answer call.role out (projected_outcome call))
 
 -- The companion of a run of `prove` that ended with the status of an outcome. The command means a call; its proof was stored, and the
@@ -58,4 +58,4 @@ pub record IsProved (invocation : Invocation) (files : Contents) (old new : Outs
   pub written : new.written ≡ append_known old.written (concat ((shallow_told call.role (projected_outcome call)).lines ++ call_proof_line call kept ∷ []))
   pub stored : AddsStores old.stores new.stores ((out, call_proof call kept) ∷ [])
   pub accepted : IsAcceptedCall call kept
-  pub verified : IsVerified call kept calls.role.program_file.text calls.role_name calls.argument_text calls.fuel_text
+  pub verified : IsVerified call kept calls.role.program_file.bytes calls.role_name calls.argument_text calls.fuel_text

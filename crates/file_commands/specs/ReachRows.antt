@@ -3,7 +3,7 @@ use Rattle.std.specs.Prelude.{◌≡◌, List, [], ◌∷◌, ℕ, Option, Some,
 use Rattle.std.specs.Option.{ForSome}
 use Rattle.std.proofs.Common.{subst}
 use Rattle.command_words.specs.declared.command.Command.{Command}
-use Rattle.command_words.specs.declared.command.Command.TheVariants.{Check, Init, Ideal, Step, Shallow, Migrate, Prove, Verify, Audit, Library, Gen, Serve, Ask, Pieces, Fetch, Mirror, Draw, Found, Host, Replay}
+use Rattle.command_words.specs.declared.command.Command.TheVariants.{Check, Init, Ideal, Step, Shallow, Migrate, Prove, Verify, Audit, Library, Gen, Serve, Ask, Pieces, Fetch, Mirror, Draw, Found, Host, Replay, Emit}
 use Rattle.lam_outside.specs.Told.{Contents, Names}
 use Rattle.file_commands.specs.Answer.{Answer}
 use Rattle.file_commands.specs.EndRows.{answer, answers}
@@ -81,20 +81,20 @@ pub functions_run : RunsAFunction Init × RunsAFunction Ideal × RunsAFunction S
 functions_run = (tt, tt, tt, tt, tt, tt, tt, tt, tt)
 
 pub none_run : (RunsAFunction Check → ⊥) × (RunsAFunction Shallow → ⊥) × (RunsAFunction Migrate → ⊥) × (RunsAFunction Library → ⊥) × (RunsAFunction Serve → ⊥) × (RunsAFunction Ask → ⊥) × (RunsAFunction Pieces → ⊥)
-    × (RunsAFunction Mirror → ⊥) × (RunsAFunction Found → ⊥) × (RunsAFunction Host → ⊥) × (RunsAFunction Replay → ⊥)
-none_run = ((λ r. r), (λ r. r), (λ r. r), (λ r. r), (λ r. r), (λ r. r), (λ r. r), (λ r. r), (λ r. r), (λ r. r), (λ r. r))
+    × (RunsAFunction Mirror → ⊥) × (RunsAFunction Found → ⊥) × (RunsAFunction Host → ⊥) × (RunsAFunction Replay → ⊥) × (RunsAFunction Emit → ⊥)
+none_run = ((λ r. r), (λ r. r), (λ r. r), (λ r. r), (λ r. r), (λ r. r), (λ r. r), (λ r. r), (λ r. r), (λ r. r), (λ r. r), (λ r. r))
 
 pub proofs_judged : JudgesAProof Verify × JudgesAProof Audit × JudgesAProof Ask × JudgesAProof Fetch × JudgesAProof Draw × (JudgesAProof Prove → ⊥) × (JudgesAProof Gen → ⊥) × (JudgesAProof Serve → ⊥)
-    × (JudgesAProof Pieces → ⊥) × (JudgesAProof Mirror → ⊥) × (JudgesAProof Found → ⊥) × (JudgesAProof Host → ⊥) × (JudgesAProof Replay → ⊥)
-proofs_judged = (tt, tt, tt, tt, tt, (λ j. j), (λ j. j), (λ j. j), (λ j. j), (λ j. j), (λ j. j), (λ j. j), (λ j. j))
+    × (JudgesAProof Pieces → ⊥) × (JudgesAProof Mirror → ⊥) × (JudgesAProof Found → ⊥) × (JudgesAProof Host → ⊥) × (JudgesAProof Replay → ⊥) × (JudgesAProof Emit → ⊥)
+proofs_judged = (tt, tt, tt, tt, tt, (λ j. j), (λ j. j), (λ j. j), (λ j. j), (λ j. j), (λ j. j), (λ j. j), (λ j. j), (λ j. j))
 
 pub files_read : ReadsFiles Check × ReadsFiles Migrate × ReadsFiles Ask × ReadsFiles Verify × ReadsFiles Pieces × ReadsFiles Fetch × ReadsFiles Mirror × ReadsFiles Draw
-    × ReadsFiles Found × ReadsFiles Host × ReadsFiles Replay × (ReadsFiles Library → ⊥) × (ReadsFiles Gen → ⊥)
-files_read = (tt, tt, tt, tt, tt, tt, tt, tt, tt, tt, tt, (λ r. r), (λ r. r))
+    × ReadsFiles Found × ReadsFiles Host × ReadsFiles Replay × ReadsFiles Emit × (ReadsFiles Library → ⊥) × (ReadsFiles Gen → ⊥)
+files_read = (tt, tt, tt, tt, tt, tt, tt, tt, tt, tt, tt, tt, (λ r. r), (λ r. r))
 
 pub programs_read : ReadsAProgram Check × ReadsAProgram Migrate × ReadsAProgram Gen × ReadsAProgram Serve × ReadsAProgram Draw × ReadsAProgram Found × ReadsAProgram Host × ReadsAProgram Replay
-    × (ReadsAProgram Library → ⊥) × (ReadsAProgram Mirror → ⊥)
-programs_read = (tt, tt, tt, tt, tt, tt, tt, tt, (λ r. r), (λ r. r))
+    × ReadsAProgram Emit × (ReadsAProgram Library → ⊥) × (ReadsAProgram Mirror → ⊥)
+programs_read = (tt, tt, tt, tt, tt, tt, tt, tt, tt, (λ r. r), (λ r. r))
 
 -- by what the command does
 pub may_answer : (c : Command) → (RunsAFunction c → MayAnswer c Trap × MayAnswer c OutOfFuel) × (JudgesAProof c → MayAnswer c Rejected) × (ReadsAProgram c → MayAnswer c ProgramRefused)

@@ -1,4 +1,4 @@
--- What reading a program says of the program of its text. Where memory ran out nothing is said.
+-- What reading a program says of the program of its bytes. Where memory ran out nothing is said.
 use Rattle.std.specs.Prelude.{◌≡◌, Result, Ok, Err, ⊤}
 use Rattle.core_terms.specs.ProgramTypes.{text_of}
 use Rattle.core_terms.specs.Programs.{constructor_names, meaning}
@@ -7,16 +7,22 @@ use Rattle.core_terms.specs.declared.program.Program.{Program}
 use Rattle.lexemes.specs.Readings.{SyntaxFault}
 use Rattle.core_terms.specs.declared.fault.Fault.TheVariants as fault
 use Rattle.auth_types.specs.Outcomes.{TypeFault}
+use Rattle.core_terms.specs.TypeNames.{all_constructor_names}
+use Rattle.code_check.specs.declared.fault.ObjectFault.{ObjectFault}
+use Rattle.code_check.specs.declared.fault.ObjectFault.TheVariants as object_fault
+use Rattle.printed_lines.specs.declared.refusal.ObjectKind.TheVariants as object_kind
 use Rattle.printed_lines.specs.declared.refusal.ProgramKind.TheVariants.{Syntax, Typing}
-use Rattle.file_commands.specs.FueledRoles.{DeclaredProgram, DigestedProgram, NamedProgram}
-use Rattle.file_commands.specs.TextPrograms.{TextProgram, IsProgram, IsRefused}
+use Rattle.printed_lines.specs.declared.refusal.Refusal.TheVariants as refusal
+use Rattle.file_commands.specs.FueledRoles.{DeclaredProgram, DigestedProgram, ListedProgram, NamedProgram}
+use Rattle.file_commands.specs.TextPrograms.{FileProgram, IsProgram, IsRefused}
 use Rattle.file_commands.specs.declared.programs.ProgramFault.{ProgramFault}
-use Rattle.file_commands.specs.declared.programs.ProgramFault.TheVariants.{At, NoMemory}
+use Rattle.file_commands.specs.declared.programs.ProgramFault.TheVariants.{At, Object, NoMemory}
 
--- Ok gives the program of the text, which is what p means; a refusal gives its first fault
-abbrev pub ReadsProgram : {A : Type 0} → (A → tree.Program) → TextProgram → Result A ProgramFault → Type 0
+-- Ok gives the program of the bytes, which is what p means; a refusal gives their first fault
+abbrev pub ReadsProgram : {A : Type 0} → (A → tree.Program) → FileProgram → Result A ProgramFault → Type 0
 ReadsProgram means found (Ok p) = found ≡ IsProgram (means p)
-ReadsProgram means found (Err (At kind line column)) = found ≡ IsRefused kind line column
+ReadsProgram means found (Err (At kind line column)) = found ≡ IsRefused (refusal.Program kind line column)
+ReadsProgram means found (Err (Object kind)) = found ≡ IsRefused (refusal.Object kind)
 ReadsProgram means found (Err NoMemory) = ⊤
 
 -- why a text is no program, where it has no tree
@@ -29,6 +35,15 @@ abbrev pub of_type_fault : TypeFault → ProgramFault
 of_type_fault (fault.At kind at) = At (Typing kind) at.line at.column
 of_type_fault fault.NoMemory = NoMemory
 
+-- why bytes that begin as an object are no program
+abbrev pub of_object_fault : ObjectFault → ProgramFault
+of_object_fault (object_fault.Cut bytes) = Object (object_kind.Cut bytes)
+of_object_fault (object_fault.BadField offset) = Object (object_kind.BadField offset)
+of_object_fault (object_fault.Leftover bytes) = Object (object_kind.Leftover bytes)
+of_object_fault (object_fault.Shape function) = Object (object_kind.Shape function)
+of_object_fault (object_fault.Kind function instruction) = Object (object_kind.Kind function instruction)
+of_object_fault object_fault.NoMemory = NoMemory
+
 -- a program with the digest that it holds
 abbrev pub digested_of : Program → DigestedProgram
 digested_of p = record { program = meaning p; digest = p.text_digest.0 }
@@ -36,6 +51,10 @@ digested_of p = record { program = meaning p; digest = p.text_digest.0 }
 -- the same with the names of its constructors
 abbrev pub named_of : Program → NamedProgram
 named_of p = record { digested = digested_of p; names = constructor_names p.types.named.items }
+
+-- and with the names in lists
+abbrev pub listed_of : Program → ListedProgram
+listed_of p = record { program = meaning p; constructors = all_constructor_names p.types.named.items }
 
 -- and with its type declarations, printed
 abbrev pub declared_of : Program → DeclaredProgram

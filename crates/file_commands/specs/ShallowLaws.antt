@@ -14,10 +14,10 @@ pub record StoresAlone (found : Option Answer) (name bytes : List ℕ) : Type 0 
   pub done : answer.status ≡ Done
   pub stored : answer.stored ≡ (name, bytes) ∷ []
 
--- Whatever files hold the text of the program and the image that a command of `prove` named: `shallow` on these two is done, and stores
+-- Whatever files hold the bytes of the program and the image that a command of `prove` named: `shallow` on these two is done, and stores
 -- just the state that the client of this call holds.
 abbrev pub ShallowStoresTheClientsState : Type 0
 ShallowStoresTheClientsState =
     (invocation : Invocation) (files : Contents) (call : IdealCall) (n : ℕ) (proof : List ℕ) (calls : CallsProve invocation files call n proof)
-    → (program image out : List ℕ) (later : Contents) → later program ≡ Some calls.role.program_file.text → later image ≡ Some calls.inputs.image_file.image
+    → (program image out : List ℕ) (later : Contents) → later program ≡ Some calls.role.program_file.bytes → later image ≡ Some calls.inputs.image_file.image
     → StoresAlone (spelled_answer program image out later) out (client_call call).state

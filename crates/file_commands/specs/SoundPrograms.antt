@@ -1,11 +1,12 @@
--- The programs of texts are well-typed.
-use Rattle.std.specs.Prelude.{◌≡◌, ℕ, true, List}
+-- The programs of texts, and those of accepted objects, are well-typed.
+use Rattle.std.specs.Prelude.{◌≡◌, ◌≤◌, ℕ, true, List, length}
 use Rattle.core_terms.specs.ProgramFormats.{format_with}
 use Rattle.core_terms.specs.Formats as meant
 use Rattle.core_terms.specs.Terms.{Program}
 use Rattle.core_terms.specs.Typing.{is_typed, is_shaped}
 use Rattle.core_terms.specs.declared.format.Format.{Format}
-use Rattle.file_commands.specs.TextPrograms.{TextProgram, IsProgram, program_of_text, types_text_of_text}
+use Rattle.file_commands.specs.FilePrograms.{longest_program, program_of_file}
+use Rattle.file_commands.specs.TextPrograms.{FileProgram, IsProgram, program_of_text, types_text_of_text}
 use Rattle.file_commands.specs.declared.status.Status.{Status}
 use Rattle.file_commands.specs.declared.status.Status.TheVariants.{Done, Trap, OutOfFuel}
 
@@ -19,17 +20,19 @@ pub record IsSound (P : Program) : Type 0 where
   pub shaped : is_shaped P ≡ true
   pub format : IsOneOfTwo P.format
 
--- the program is that of a text
-abbrev pub IsOfText : Program → Type 0
-IsOfText P = (text : List ℕ) × (program_of_text text ≡ IsProgram P)
+-- the program is that of a text, or of an accepted object, which is no longer than it may be
+pub record IsOfTextOrObject (P : Program) : Type 0 where
+  pub bytes : List ℕ
+  pub fits : length bytes ≤ longest_program bytes
+  pub program : program_of_file bytes ≡ IsProgram P
 
--- the same of a text whose type declarations are printed as this one
+-- the program is that of a text whose type declarations are printed as this one
 abbrev pub IsOfDeclared : List ℕ → Program → Type 0
 IsOfDeclared declared P = (text : List ℕ) × (program_of_text text ≡ IsProgram P) × (types_text_of_text text ≡ declared)
 
--- by a reading of texts each program that a text gives is sound
-abbrev pub GivesSound : (List ℕ → TextProgram) → Type 0
-GivesSound reading = (text : List ℕ) (P : Program) → reading text ≡ IsProgram P → IsSound P
+-- by a reading of bytes each program that they give is sound
+abbrev pub GivesSound : (List ℕ → FileProgram) → Type 0
+GivesSound reading = (bytes : List ℕ) (P : Program) → reading bytes ≡ IsProgram P → IsSound P
 
 -- the status is that of an outcome, or of a command that was carried out
 abbrev pub IsOutcome : Status → Type 0

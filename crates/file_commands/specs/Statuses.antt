@@ -1,7 +1,7 @@
 -- The statuses that a command may answer, whatever the files hold.
 use Rattle.std.specs.Prelude.{◌≡◌}
 use Rattle.command_words.specs.declared.command.Command.{Command}
-use Rattle.command_words.specs.declared.command.Command.TheVariants.{Check, Shallow, Migrate, Verify, Audit, Library, Gen, Serve, Ask, Pieces, Fetch, Mirror, Draw, Found, Host, Replay}
+use Rattle.command_words.specs.declared.command.Command.TheVariants.{Check, Shallow, Migrate, Verify, Audit, Library, Gen, Serve, Ask, Pieces, Fetch, Mirror, Draw, Found, Host, Replay, Emit}
 use Rattle.file_commands.specs.declared.status.Status.{Status}
 use Rattle.file_commands.specs.declared.status.Status.TheVariants.{Usage, Trap, OutOfFuel, Rejected, ProgramRefused, ReadFault, Collision}
 
@@ -18,6 +18,7 @@ RunsAFunction Mirror = ⊥
 RunsAFunction Found = ⊥
 RunsAFunction Host = ⊥
 RunsAFunction Replay = ⊥
+RunsAFunction Emit = ⊥
 RunsAFunction command = Unit {0}
 
 -- the command judges a proof, a server's replies or the pieces of a mirror, which it may reject
@@ -29,7 +30,7 @@ JudgesAProof Fetch = Unit {0}
 JudgesAProof Draw = Unit {0}
 JudgesAProof command = ⊥
 
--- the command reads files, and the text of a program
+-- the command reads files, and the text of a program or its object
 abbrev pub ReadsFiles : Command → Type 0
 ReadsFiles Library = ⊥
 ReadsFiles Gen = ⊥

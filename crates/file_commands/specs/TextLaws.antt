@@ -1,10 +1,12 @@
--- The laws of texts as programs.
+-- The laws of texts and objects as programs.
 use Rattle.std.specs.Prelude.{◌≡◌, ℕ, List, [], length, slice_get, unwrap_or}
 use Rattle.core_terms.specs.Terms.{Program}
-use Rattle.file_commands.specs.TextPrograms.{IsProgram, constructor_names_of_text, program_of_text}
+use Rattle.file_commands.specs.FilePrograms.{constructor_names_of_file, program_of_file}
+use Rattle.file_commands.specs.TextPrograms.{IsProgram}
 
--- The program that a text gives has for each of its named types as many constructors as the text has names for them.
+-- The program that bytes give, as a text or as an object, has for each of its named types as many constructors as the bytes have names for
+-- them.
 abbrev pub ConstructorsAreNamed : Type 0
 ConstructorsAreNamed =
-    (text : List ℕ) (P : Program) → program_of_text text ≡ IsProgram P
-    → (n : ℕ) → length (constructor_names_of_text text n) ≡ length (unwrap_or (slice_get P.types n) [])
+    (bytes : List ℕ) (P : Program) → program_of_file bytes ≡ IsProgram P
+    → (n : ℕ) → length (constructor_names_of_file bytes n) ≡ length (unwrap_or (slice_get P.types n) [])

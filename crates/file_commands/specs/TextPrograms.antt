@@ -8,28 +8,38 @@ use Rattle.auth_types.specs.CheckedPrograms.{Checked, checked, constructors_in, 
 use Rattle.auth_types.specs.CheckedPrograms as checking
 use Rattle.printed_lines.specs.declared.refusal.ProgramKind.{ProgramKind}
 use Rattle.printed_lines.specs.declared.refusal.ProgramKind.TheVariants.{Syntax, Typing}
+use Rattle.printed_lines.specs.declared.refusal.Refusal.{Refusal}
+use Rattle.printed_lines.specs.declared.refusal.Refusal.TheVariants as refusal
 
--- what a text is: a program, or none, with the first fault and its line and column, from 1 and by bytes
-pub data TextProgram : Type 0 where
-  IsProgram : (P : Program) → TextProgram
-  IsRefused : (kind : ProgramKind) (line column : ℕ) → TextProgram
+-- what the bytes of a file are: a program, or none, and then what is refused of them
+pub data FileProgram : Type 0 where
+  IsProgram : (P : Program) → FileProgram
+  IsRefused : (what : Refusal) → FileProgram
 
-abbrev pub of_checked : Checked → TextProgram
+-- a text is refused for its first fault, with the line and column of this, from 1 and by bytes
+abbrev pub is_faulty : ProgramKind → (line column : ℕ) → FileProgram
+is_faulty kind line column = IsRefused (refusal.Program kind line column)
+
+abbrev pub of_checked : Checked → FileProgram
 of_checked (checking.IsProgram P) = IsProgram P
-of_checked (checking.FirstFault kind line column) = IsRefused (Typing kind) line column
+of_checked (checking.FirstFault kind line column) = is_faulty (Typing kind) line column
 
-abbrev pub of_parsed : Parsed → TextProgram
+abbrev pub of_parsed : Parsed → FileProgram
 of_parsed (parsing.Tree program) = of_checked (checked program)
-of_parsed (parsing.FirstFault kind at) = IsRefused (Syntax kind) at.line at.column
+of_parsed (parsing.FirstFault kind at) = is_faulty (Syntax kind) at.line at.column
 
 -- A text as a program. A fault of its syntax comes before all faults of its typing.
-unfoldable pub program_of_text : List ℕ → TextProgram
+unfoldable pub program_of_text : List ℕ → FileProgram
 program_of_text text = of_parsed (parsed text)
 
 -- the names of the constructors of each type that a tree declares, in the order of its declarations
 abbrev pub constructors_of_parsed : Parsed → List (List (List ℕ))
 constructors_of_parsed (parsing.Tree program) = constructors_in program.declarations
 constructors_of_parsed (parsing.FirstFault kind at) = []
+
+-- the same of a text
+unfoldable pub constructors_of_text : List ℕ → List (List (List ℕ))
+constructors_of_text text = constructors_of_parsed (parsed text)
 
 -- The names of the constructors of the n-th type that a text declares, from 0, in the order in which it declares them: by tag.
 unfoldable pub constructor_names_of_text : List ℕ → ConstructorNames

@@ -22,10 +22,11 @@ use Rattle.file_commands.specs.Answer.{mirror_read, shallow_told}
 use Rattle.file_commands.specs.Arguments.{fuel_of}
 use Rattle.file_commands.specs.Ending.{Outside}
 use Rattle.fetched_verdicts.specs.Verdicts.{AreAnswersOf}
+use Rattle.file_commands.specs.FilePrograms.{program_of_file}
 use Rattle.file_commands.specs.FueledRoles.{FueledRole}
 use Rattle.file_commands.specs.NamedCalls.{named_program}
 use Rattle.file_commands.specs.RoleCalls.{is_called, kind_called, passed_literal, program_called, result_called}
-use Rattle.file_commands.specs.TextPrograms.{IsProgram, program_of_text}
+use Rattle.file_commands.specs.TextPrograms.{IsProgram}
 use Rattle.file_commands.specs.TrueLines.{TellsOutcome}
 use Rattle.file_commands.specs.declared.roles.Callee.TheVariants.{OfState}
 
@@ -40,10 +41,10 @@ pub record CallsFetch (line : List (List ℕ)) (files : Contents) (r : FueledRol
   pub fuel_text : List ℕ
   pub mirror_name : List ℕ
   pub words : invocation_of line ≡ Some (calls Fetch (program_name ∷ role_name ∷ state_name ∷ argument_text ∷ fuel_text ∷ mirror_name ∷ []))
-  pub text : List ℕ
-  pub program_file : files program_name ≡ Some text
-  pub program : program_of_text text ≡ IsProgram (program_called r)
-  pub named : r.program ≡ named_program text (program_called r)
+  pub bytes : List ℕ
+  pub program_file : files program_name ≡ Some bytes
+  pub program : program_of_file bytes ≡ IsProgram (program_called r)
+  pub named : r.program ≡ named_program bytes (program_called r)
   pub role : role_named (program_called r) role_name ≡ Some r.role
   pub called : is_called OfState (kind_called r) ≡ true
   pub fuel : fuel_of fuel_text ≡ Some r.fuel

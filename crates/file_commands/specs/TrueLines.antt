@@ -17,10 +17,11 @@ use Rattle.ideal_meaning.specs.Headline.{TrueOrSplit, call_of}
 use Rattle.file_commands.specs.Answer.{accepted_answer, callee_of}
 use Rattle.file_commands.specs.Arguments.{fuel_of}
 use Rattle.file_commands.specs.Ending.{Outside}
+use Rattle.file_commands.specs.FilePrograms.{program_of_file}
 use Rattle.file_commands.specs.FueledRoles.{FueledRole}
 use Rattle.file_commands.specs.NamedCalls.{named_program}
 use Rattle.file_commands.specs.RoleCalls.{is_called, kind_called, passed_literal, program_called, result_called}
-use Rattle.file_commands.specs.TextPrograms.{IsProgram, program_of_text}
+use Rattle.file_commands.specs.TextPrograms.{IsProgram}
 
 -- the word of the name that the new state is stored under, where there is one
 abbrev pub words_of : Option (List ℕ) → List (List ℕ)
@@ -38,10 +39,10 @@ pub record CallsVerify (line : List (List ℕ)) (files : Contents) (r : FueledRo
   pub fuel_text : List ℕ
   pub proof_name : List ℕ
   pub words : invocation_of line ≡ Some (calls Verify (program_name ∷ role_name ∷ state_name ∷ argument_text ∷ fuel_text ∷ proof_name ∷ words_of out))
-  pub text : List ℕ
-  pub program_file : files program_name ≡ Some text
-  pub program : program_of_text text ≡ IsProgram (program_called r)
-  pub named : r.program ≡ named_program text (program_called r)
+  pub bytes : List ℕ
+  pub program_file : files program_name ≡ Some bytes
+  pub program : program_of_file bytes ≡ IsProgram (program_called r)
+  pub named : r.program ≡ named_program bytes (program_called r)
   pub role : role_named (program_called r) role_name ≡ Some r.role
   pub called : is_called (callee_of out) (kind_called r) ≡ true
   pub fuel : fuel_of fuel_text ≡ Some r.fuel

@@ -16,7 +16,7 @@ use lam_outside::{Files, Sink};
 use printed_lines::lines::ok_line;
 use std::alloc::Global;
 
-/// Checks a program, and tells the digest of its text. The words behind the command are `P`.
+/// Checks a program, and tells the digest of its text or object. The words behind the command are `P`.
 pub fn check_command<F: Files, O: Sink>(
     alloc: Global,
     words: &[&str],

@@ -1,4 +1,5 @@
 //! The laws of the definitions in `specs/`: each is a function without parameters, whose contract is the law.
+ghost use Rattle.file_commands.specs.FilePrograms.{program_of_file};
 ghost use Rattle.file_commands.specs.ShallowLaws.{ShallowStoresTheClientsState};
 ghost use Rattle.file_commands.specs.SoundPrograms.{GivesSound};
 ghost use Rattle.file_commands.specs.TextLaws.{ConstructorsAreNamed};
@@ -11,12 +12,13 @@ pub fn verdicts_are_on_proofs()
     ensures { VerdictsAreOnProofs }
 {}
 
-/// The program that a text gives is well-typed, and its roles have their shapes.
+/// The program that a text gives is well-typed, and its roles have their shapes; and so is that of a file, as an object or as a text.
 pub fn programs_are_sound()
-    ensures { GivesSound program_of_text }
+    ensures texts { GivesSound program_of_text }
+    ensures files { GivesSound program_of_file }
 {}
 
-/// Each constructor of a text's program has a name in the text.
+/// Each constructor of a program has a name in the program's text or object.
 pub fn constructors_are_named()
     ensures { ConstructorsAreNamed }
 {}

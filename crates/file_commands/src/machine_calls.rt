@@ -13,7 +13,7 @@ ghost use Rattle.file_commands.specs.Reaching.{FaultsAt, FaultsAtReached};
 ghost use Rattle.file_commands.specs.ReadPrograms.{named_of};
 ghost use Rattle.file_commands.specs.RoleCalls.{EndedRole, ended_with};
 ghost use Rattle.file_commands.specs.RolesCalled.{CallsOnStates, HasEnded, IsCalled, IsEnded, role_of};
-ghost use Rattle.file_commands.specs.SoundPrograms.{IsOfText};
+ghost use Rattle.file_commands.specs.SoundPrograms.{IsOfTextOrObject};
 
 use crate::Halt;
 use crate::ideal_calls::{IdealCall, put_argument, read_named_call};
@@ -38,7 +38,7 @@ pub struct Ended {
 /// The code of the program in a file.
 pub fn read_code<F: Files>(alloc: Global, files: &mut F, name: &str) -> Result<Code, Halt>
     ensures goes { ForSome (F.contents files.old) (λ told. GoesOn (with_program_file (told name.now)) (λ code. named_of (program_in code)) result) }
-    ensures text { IfOk result (λ code. IsOfText (meaning (program_in code))) }
+    ensures source { IfOk result (λ code. IsOfTextOrObject (meaning (program_in code))) }
     ensures asked { FaultsAt name.now (F.asked files.new) result }
     ensures cause { HaltCause (F.faults files.old) (F.faults files.new) result }
     ensures contents { F.contents files.new ≡ F.contents files.old }

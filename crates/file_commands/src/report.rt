@@ -6,7 +6,7 @@ ghost use Rattle.printed_lines.specs.declared.refusal.Refusal.TheVariants.{Input
 ghost use Rattle.file_commands.specs.declared.report.Halt.TheVariants.{NoMemory, ReadFault, Refused};
 ghost use Rattle.file_commands.specs.Reaching.{FaultsAt};
 ghost use Rattle.file_commands.specs.Answer.{refusal_status, with_file};
-ghost use Rattle.file_commands.specs.Halting.{GoesOn, HaltCause, ending_status, halt_status, of_audit_fault, of_image_fault, of_literal_fault, of_mirror_fault, of_program_fault, of_save_fault, of_script_fault, of_verdict};
+ghost use Rattle.file_commands.specs.Halting.{GoesOn, HaltCause, ending_status, halt_status, of_audit_fault, of_image_fault, of_literal_fault, of_mirror_fault, of_program_fault, of_save_fault, of_script_fault, of_verdict, of_write_fault};
 ghost use Rattle.file_commands.specs.Statuses.{MayAnswer, ReadsFiles};
 ghost use Rattle.file_commands.specs.Telling.{Tells, TellsText};
 
@@ -16,6 +16,7 @@ use ask_script::ScriptFault;
 use collision_audit::AuditFault;
 use images::{ImageFault, SaveFault};
 use lam_outside::{Failed, Files, Load, Sink, load_all, write_all};
+use object_writer::WriteFault;
 use piece_mirror::MirrorFault;
 use printed_lines::lines::refusal_line;
 use printed_lines::refusal::{Argument, ImageKind, InputFault, MirrorKind, Refusal, Rejection};
@@ -92,6 +93,7 @@ impl From<ProgramFault> for Halt {
             ProgramFault::At(kind, line, column) => {
                 Halt::Refused(Refusal::Program(kind, line, column))
             }
+            ProgramFault::Object(kind) => Halt::Refused(Refusal::Object(kind)),
             ProgramFault::NoMemory => Halt::NoMemory,
         }
     }
@@ -138,6 +140,19 @@ impl From<SaveFault> for Halt {
                 Halt::Refused(Refusal::Input(InputFault::TooLong(Argument::Out)))
             }
             SaveFault::NoMemory => Halt::NoMemory,
+        }
+    }
+}
+
+impl From<WriteFault> for Halt {
+    ghost from_gives = { λ fault halt. halt ≡ of_write_fault fault };
+
+    fn from(fault: WriteFault) -> Self {
+        match fault {
+            WriteFault::TooLong => {
+                Halt::Refused(Refusal::Input(InputFault::TooLong(Argument::Out)))
+            }
+            WriteFault::NoMemory => Halt::NoMemory,
         }
     }
 }
@@ -274,7 +289,7 @@ fn status_of(refusal: &Refusal) -> Status
     ensures { result ≡ refusal_status refusal.now }
 {
     match refusal {
-        Refusal::Program(_, _, _) => Status::ProgramRefused,
+        Refusal::Program(_, _, _) | Refusal::Object(_) => Status::ProgramRefused,
         Refusal::Input(_) => Status::InputRefused,
         Refusal::Proof(_) => Status::Rejected,
     }

@@ -37,6 +37,7 @@ module _ (old new : Outside) (disk disk' : DiskSeen) where
   halt_counted : (T : Type 0) (halt : Halt) → CausedBy {T = T} (Err (Halts halt)) → new.store_faults ≡ old.store_faults → new.write_faults ≡ old.write_faults → DiskCountsBy old new disk disk' (halt_status halt)
   halt_counted T Usage cause stores writes = absurd cause
   halt_counted T (Refused (refusal.Program kind line column)) cause stores writes = (cause.0, cause.1, stores, writes, cause.2)
+  halt_counted T (Refused (refusal.Object kind)) cause stores writes = (cause.0, cause.1, stores, writes, cause.2)
   halt_counted T (Refused (refusal.Input fault)) cause stores writes = (cause.0, cause.1, stores, writes, cause.2)
   halt_counted T (Refused (refusal.Proof why)) cause stores writes = absurd cause
   halt_counted T ReadFault (inl (rose, same), kept) stores writes = (inl rose, stores, writes, kept)
@@ -78,6 +79,7 @@ module _ (f : Founding) (name : List ℕ) (disk disk' : DiskSeen) where
   at_halt : (halt : Halt) → Unwritten → LeavesDisk f name disk disk' (halt_status halt)
   at_halt Usage left = left
   at_halt (Refused (refusal.Program kind line column)) left = left
+  at_halt (Refused (refusal.Object kind)) left = left
   at_halt (Refused (refusal.Input fault)) left = left
   at_halt (Refused (refusal.Proof why)) left = left
   at_halt ReadFault left = left
@@ -99,6 +101,7 @@ module _ (f : Founding) (name : List ℕ) (disk disk' : DiskSeen) where
 no_halt : (halt : Halt) → halt_status halt ≡ status.Done → ⊥
 no_halt Usage is = cc (is)
 no_halt (Refused (refusal.Program kind line column)) is = cc (is)
+no_halt (Refused (refusal.Object kind)) is = cc (is)
 no_halt (Refused (refusal.Input fault)) is = cc (is)
 no_halt (Refused (refusal.Proof why)) is = cc (is)
 no_halt ReadFault is = cc (is)
@@ -126,6 +129,7 @@ pub halted_at : (answer : Contents → Option Answer) (name : List ℕ) (content
     → ((files : Contents) → contents ≡ Some files → answer (without name files) ≡ None) → MayHalt before now halt → HaltsAt name asked halt → ReachedOr before now answer contents asked
 halted_at answer name contents asked before now Usage needs cause faults = absurd cause
 halted_at answer name contents asked before now (Refused (refusal.Program kind line column)) needs cause faults = inl cause
+halted_at answer name contents asked before now (Refused (refusal.Object kind)) needs cause faults = inl cause
 halted_at answer name contents asked before now (Refused (refusal.Input fault)) needs cause faults = inl cause
 halted_at answer name contents asked before now (Refused (refusal.Proof why)) needs cause faults = absurd cause
 halted_at answer name contents asked before now ReadFault needs cause faults = inr (λ files known names told. (name, faults names told, needs files known))

@@ -32,6 +32,7 @@ module _ (T : Type 0) (files files' reads reads' writes writes' : ℕ) where
   by_halt : (halt : Halt) → reads' ≡ reads → writes' ≡ writes → MayHalt files files' halt → WorkCause {T = T} files files' reads reads' writes writes' (Err (Halts halt))
   by_halt Usage same kept cause = cause
   by_halt (Refused (refusal.Program kind line column)) same kept cause = (cause, same, kept)
+  by_halt (Refused (refusal.Object kind)) same kept cause = (cause, same, kept)
   by_halt (Refused (refusal.Input fault)) same kept cause = (cause, same, kept)
   by_halt (Refused (refusal.Proof why)) same kept cause = cause
   by_halt ReadFault same kept cause = (inl (cause, same), kept)
@@ -46,6 +47,7 @@ module _ (T U : Type 0) (files files' reads reads' writes writes' : ℕ) where
   by_stop : (stop : DiskStop) → files' ≡ files → DiskCause {T = T} reads reads' writes writes' (Err stop) → WorkCause {T = U} files files' reads reads' writes writes' (Err stop)
   by_stop (Halts Usage) same cause = cause
   by_stop (Halts (Refused (refusal.Program kind line column))) same cause = (same, cause.0, cause.1)
+  by_stop (Halts (Refused (refusal.Object kind))) same cause = (same, cause.0, cause.1)
   by_stop (Halts (Refused (refusal.Input fault))) same cause = (same, cause.0, cause.1)
   by_stop (Halts (Refused (refusal.Proof why))) same cause = cause
   by_stop (Halts ReadFault) same cause = (inr (same, cause.0), cause.1)
@@ -68,6 +70,7 @@ module _ (T : Type 0) (files files' reads reads' writes writes' : ℕ) where
   pub may_halt : (halt : Halt) → WorkCause {T = T} files files' reads reads' writes writes' (Err (Halts halt)) → MayHalt (files + reads) (files' + reads') halt
   may_halt Usage cause = cause
   may_halt (Refused (refusal.Program kind line column)) cause = none_rose files files' reads reads' cause.0 cause.1
+  may_halt (Refused (refusal.Object kind)) cause = none_rose files files' reads reads' cause.0 cause.1
   may_halt (Refused (refusal.Input fault)) cause = none_rose files files' reads reads' cause.0 cause.1
   may_halt (Refused (refusal.Proof why)) cause = cause
   may_halt ReadFault (inl (rose, same), kept) = rose_first files files' reads reads' rose same
@@ -77,6 +80,7 @@ module _ (T : Type 0) (files files' reads reads' writes writes' : ℕ) where
   pub writes_kept : (halt : Halt) → WorkCause {T = T} files files' reads reads' writes writes' (Err (Halts halt)) → writes' ≡ writes
   writes_kept Usage cause = absurd cause
   writes_kept (Refused (refusal.Program kind line column)) cause = cause.2
+  writes_kept (Refused (refusal.Object kind)) cause = cause.2
   writes_kept (Refused (refusal.Input fault)) cause = cause.2
   writes_kept (Refused (refusal.Proof why)) cause = absurd cause
   writes_kept ReadFault cause = cause.1

@@ -1,4 +1,4 @@
--- Lines of audits, of mirrors, of journals, of states that are moved and of rejections. Each equation holds by computing both sides.
+-- Lines of audits, of objects, of mirrors, of journals, of states that are moved and of rejections. Each equation holds by computing both sides.
 use Rattle.std.specs.Prelude.{◌≡◌, [], ◌∷◌, Some, None, codes, map, refl}
 use Rattle.std.specs.Fmt.{digits}
 use Rattle.hex.specs.Hex.{encode_with}
@@ -7,12 +7,13 @@ use Rattle.ideal_meaning.specs.Wire.{AtEnd, IsCut, TooLong, BadMessage}
 use Rattle.printed_lines.specs.Lines.{agrees_line, collision_line, out_line, pieces_line, refusal_line, rejected_line}
 use Rattle.printed_lines.specs.declared.refusal.Argument.TheVariants as argument
 use Rattle.printed_lines.specs.declared.refusal.ImageKind.TheVariants.{BadRecord as BadImageRecord}
-use Rattle.printed_lines.specs.declared.refusal.InputFault.TheVariants.{Journal, Migration, Mirror, TooLong as LongFile}
+use Rattle.printed_lines.specs.declared.refusal.InputFault.TheVariants.{Journal, Migration, Mirror, ObjectFormat, TooLong as LongFile}
 use Rattle.printed_lines.specs.declared.refusal.JournalKind.TheVariants as journal
 use Rattle.printed_lines.specs.declared.refusal.JournalKind.TheVariants.{BadRecord, NotEmpty}
 use Rattle.printed_lines.specs.declared.refusal.MigrationKind.TheVariants.{Format, Types}
 use Rattle.printed_lines.specs.declared.refusal.MirrorKind.TheVariants.{Cut, BadField, Leftover}
-use Rattle.printed_lines.specs.declared.refusal.Refusal.TheVariants.{Input, Proof}
+use Rattle.printed_lines.specs.declared.refusal.ObjectKind.TheVariants as object
+use Rattle.printed_lines.specs.declared.refusal.Refusal.TheVariants.{Input, Object, Proof}
 use Rattle.printed_lines.specs.declared.refusal.Rejection.TheVariants as rejection
 use Rattle.wire_form.specs.declared.got.Wire.TheVariants as wire
 
@@ -62,6 +63,13 @@ pub mirror_faults_are_told : map refusal_line (Input (Mirror (Cut 5)) ∷ Input 
     ≡ codes "input refused: mirror cut 5\n" ∷ codes "input refused: mirror field 8\n" ∷ codes "input refused: mirror leftover 2\n" ∷ codes "input refused: too long MIRROR\n" ∷ []
 unfolding digits
 mirror_faults_are_told = refl
+
+-- why bytes are no object that is accepted, and that no object is written
+pub object_faults_are_told : map refusal_line (Object (object.Cut 51) ∷ Object (object.BadField 8) ∷ Object (object.Leftover 2) ∷ Object (object.Shape 3) ∷ Object (object.Kind 0 1) ∷ Input ObjectFormat ∷ [])
+    ≡ codes "program refused: object cut 51\n" ∷ codes "program refused: object field 8\n" ∷ codes "program refused: object leftover 2\n" ∷ codes "program refused: object shape 3\n"
+    ∷ codes "program refused: object kind 0 1\n" ∷ codes "input refused: object format\n" ∷ []
+unfolding digits
+object_faults_are_told = refl
 
 -- why a state is not moved
 pub migration_faults_are_told : map refusal_line (Input (Migration Format) ∷ Input (Migration Types) ∷ Input (LongFile argument.Other) ∷ [])

@@ -27,13 +27,15 @@ use Rattle.printed_lines.specs.declared.refusal.Argument.TheVariants as argument
 use Rattle.printed_lines.specs.declared.refusal.ImageKind.{ImageKind}
 use Rattle.printed_lines.specs.declared.refusal.ImageKind.TheVariants as image
 use Rattle.printed_lines.specs.declared.refusal.InputFault.{InputFault}
-use Rattle.printed_lines.specs.declared.refusal.InputFault.TheVariants.{TooLong, LibraryUnknown, Migration, RoleUnknown, RoleKind, Number, State, Literal, Image, Mirror, Journal, Script}
+use Rattle.printed_lines.specs.declared.refusal.InputFault.TheVariants.{TooLong, LibraryUnknown, Migration, ObjectFormat, RoleUnknown, RoleKind, Number, State, Literal, Image, Mirror, Journal, Script}
 use Rattle.printed_lines.specs.declared.refusal.JournalKind.{JournalKind}
 use Rattle.printed_lines.specs.declared.refusal.JournalKind.TheVariants as journal
 use Rattle.printed_lines.specs.declared.refusal.MigrationKind.{MigrationKind}
 use Rattle.printed_lines.specs.declared.refusal.MigrationKind.TheVariants as migration
 use Rattle.printed_lines.specs.declared.refusal.MirrorKind.{MirrorKind}
 use Rattle.printed_lines.specs.declared.refusal.MirrorKind.TheVariants as mirror
+use Rattle.printed_lines.specs.declared.refusal.ObjectKind.{ObjectKind}
+use Rattle.printed_lines.specs.declared.refusal.ObjectKind.TheVariants as object
 use Rattle.printed_lines.specs.declared.refusal.Refusal.{Refusal}
 use Rattle.printed_lines.specs.declared.refusal.Refusal.TheVariants as refusal
 use Rattle.printed_lines.specs.declared.refusal.Rejection.{Rejection}
@@ -99,6 +101,14 @@ abbrev pub program_name : ProgramKind → List ℕ
 program_name (Syntax kind) = syntax_name kind
 program_name (Typing kind) = typing_name kind
 
+-- why bytes are no object that is accepted
+abbrev pub object_text : ObjectKind → List ℕ
+object_text (object.Cut bytes) = codes "object cut" ++ also bytes
+object_text (object.BadField offset) = codes "object field" ++ also offset
+object_text (object.Leftover bytes) = codes "object leftover" ++ also bytes
+object_text (object.Shape function) = codes "object shape" ++ also function
+object_text (object.Kind function instruction) = codes "object kind" ++ (also function ++ also instruction)
+
 -- the names of arguments
 abbrev pub argument_name : Argument → List ℕ
 argument_name argument.Program = codes "P"
@@ -152,6 +162,7 @@ abbrev pub input_text : InputFault → List ℕ
 input_text (TooLong argument) = codes "too long" ++ word (argument_name argument)
 input_text LibraryUnknown = codes "library unknown"
 input_text (Migration kind) = migration_text kind
+input_text ObjectFormat = codes "object format"
 input_text RoleUnknown = codes "role unknown"
 input_text RoleKind = codes "role kind"
 input_text (Number argument) = codes "number" ++ word (argument_name argument)
@@ -227,6 +238,7 @@ program_line kind line column = line_of (codes "program refused: ") (program_nam
 
 abbrev pub refusal_line : Refusal → List ℕ
 refusal_line (refusal.Program kind line column) = program_line kind line column
+refusal_line (refusal.Object kind) = line_of (codes "program refused: ") (object_text kind)
 refusal_line (refusal.Input fault) = line_of (codes "input refused: ") (input_text fault)
 refusal_line (refusal.Proof why) = rejection_line why
 
@@ -244,7 +256,7 @@ trap_line trap = codes "trap " ++ trap_name trap ++ codes "\n"
 abbrev pub out_line : List ℕ
 out_line = codes "out of fuel\n"
 
--- the line of `check`, with the digest of the program's text
+-- the line of `check`, with the digest of a program's text, or of its object
 abbrev pub ok_line : List ℕ → List ℕ
 ok_line digest = line_of (codes "ok ") (encode_lower digest)
 

@@ -11,7 +11,7 @@ ghost use Rattle.printed_lines.specs.Lines as def;
 
 use crate::names::{argument_name, literal_name, program_name};
 use crate::refusal::{
-    ImageKind, InputFault, JournalKind, MigrationKind, MirrorKind, ProgramKind, Refusal,
+    ImageKind, InputFault, JournalKind, MigrationKind, MirrorKind, ObjectKind, ProgramKind, Refusal,
 };
 use crate::rejections::rejection_line;
 use core_terms::{Digest, Program, Trap, TyId};
@@ -24,6 +24,10 @@ pub fn refusal_line(alloc: Global, refusal: &Refusal) -> Result<Vec<u8>, AllocEr
 {
     match *refusal {
         Refusal::Program(kind, line, column) => program_line(alloc, kind, line, column),
+        Refusal::Object(kind) => {
+            let text = object_text(alloc, kind)?;
+            between(alloc, b"program refused: ", text.as_bytes())
+        }
         Refusal::Input(fault) => {
             let text = input_text(alloc, fault)?;
             between(alloc, b"input refused: ", text.as_bytes())
@@ -46,6 +50,21 @@ fn program_line(
     between(alloc, b"program refused: ", fault.as_bytes())
 }
 
+/// Why bytes are no object that is accepted.
+fn object_text(alloc: Global, kind: ObjectKind) -> Result<String, AllocError>
+    ensures { IfOk result (λ text. string_bytes text ≡ def.object_text kind) }
+{
+    match kind {
+        ObjectKind::Cut(bytes) => format!(in alloc; "object cut {bytes}"),
+        ObjectKind::BadField(offset) => format!(in alloc; "object field {offset}"),
+        ObjectKind::Leftover(bytes) => format!(in alloc; "object leftover {bytes}"),
+        ObjectKind::Shape(function) => format!(in alloc; "object shape {function}"),
+        ObjectKind::Kind(function, instruction) => {
+            format!(in alloc; "object kind {function} {instruction}")
+        }
+    }
+}
+
 /// Why an input is refused.
 fn input_text(alloc: Global, fault: InputFault) -> Result<String, AllocError>
     ensures { IfOk result (λ text. string_bytes text ≡ def.input_text fault) }
@@ -57,6 +76,7 @@ fn input_text(alloc: Global, fault: InputFault) -> Result<String, AllocError>
         }
         InputFault::LibraryUnknown => format!(in alloc; "library unknown"),
         InputFault::Migration(kind) => migration_text(alloc, kind),
+        InputFault::ObjectFormat => format!(in alloc; "object format"),
         InputFault::RoleUnknown => format!(in alloc; "role unknown"),
         InputFault::RoleKind => format!(in alloc; "role kind"),
         InputFault::Number(word) => {
@@ -318,7 +338,7 @@ pub fn out_line() -> &'static str
     "out of fuel\n"
 }
 
-/// The line of a program that is accepted, with the digest of its text.
+/// The line of a program that is accepted, with its digest.
 pub fn ok_line(alloc: Global, digest: &Digest) -> Result<Vec<u8>, AllocError>
     ensures { IfOk result (λ line. line.items ≡ def.ok_line digest.now.0) }
 {

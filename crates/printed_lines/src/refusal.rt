@@ -15,6 +15,21 @@ pub enum ProgramKind {
     Typing(TypeKind),
 }
 
+/// Why bytes are no object that is accepted: the first fault. Functions, and the instructions of each, are numbered from 0.
+#[derive(Clone, Copy)]
+pub enum ObjectKind {
+    /// They end inside a field: how many they are.
+    Cut(usize),
+    /// The field at this offset is not allowed.
+    BadField(usize),
+    /// So many bytes stand behind the object.
+    Leftover(usize),
+    /// The function with this number has not the shape of its role, or has an `auth` in its argument.
+    Shape(usize),
+    /// The instruction with the second number, of the function with the first one, is at fault.
+    Kind(usize, usize),
+}
+
 /// An argument of a command, which a refusal names.
 #[derive(Clone, Copy)]
 pub enum Argument {
@@ -115,6 +130,8 @@ pub enum InputFault {
     LibraryUnknown,
     /// A state is not moved between the two programs.
     Migration(MigrationKind),
+    /// No object is written of the program: it is an object, or of the second format.
+    ObjectFormat,
     /// No role of the program has the name.
     RoleUnknown,
     /// The role is not one that the command calls.
@@ -151,6 +168,8 @@ pub enum Rejection {
 pub enum Refusal {
     /// The text is no program: the first fault with its line and column.
     Program(ProgramKind, usize, usize),
+    /// The bytes begin as an object, and none is accepted: the first fault.
+    Object(ObjectKind),
     /// An input is refused.
     Input(InputFault),
     /// The proof is rejected, or what is fetched in its place.

@@ -19,7 +19,7 @@ returns-in-Ok-clause-ends g c =
     inr (record {
       asking = asking;
       name = text_at words 4;
-      calls = record { means = λ files known. asking_apart words files asking c.requires (read.goes files known); of_texts = read.of_texts };
+      calls = record { means = λ files known. asking_apart words files asking c.requires (read.goes files known); of_sources = read.of_sources };
       of_words = asked_of_words words asking c.requires read.port;
       ends = asked_from asking (text_at words 4) _ _ _ _ _ c.ask.result (same_seen _ _ _ _ _ _ _ _ _ _ read.contents read.stores read.cause read.store_faults) c.ask.ensures.ends;
     })

@@ -9,7 +9,7 @@ use Rattle.auth_cli.specs.declared.asking.AskInputs.{AskInputs}
 use Rattle.file_commands.proofs.Reached.{faults_reached, is_missing}
 use Rattle.file_commands.proofs.RoleSteps.{program_reached}
 use Rattle.file_commands.proofs.Steps.{halts_behind, halts_first}
-use Rattle.auth_cli.proofs.AskReading.{asked_of_texts}
+use Rattle.auth_cli.proofs.AskReading.{asked_of_sources}
 use Rattle.auth_cli.proofs.asking.read_asking.Goals as goal
 
 pub returns-in_err-code-clause-goes : goal.returns-in_err-code-clause-goes
@@ -42,9 +42,9 @@ pub returns-in-Ok-clause-port : goal.returns-in-Ok-clause-port
 returns-in-Ok-clause-port g c =
     subst (TellsPort c.args.words.now.port.now) (sym (ap (λ (a : Asking). a.port) c.prepare.ensures.asks)) c.in-Ok.ensures.port
 
-pub returns-in-Ok-clause-of_texts : goal.returns-in-Ok-clause-of_texts
-returns-in-Ok-clause-of_texts g c =
-    asked_of_texts c.program.result.now (program_in c.in_ok-code.code) c.in-Ok.inputs (asked_by c.prepare.result) c.program.ensures c.in-Ok.ensures.script c.in_ok-code.ensures.text c.prepare.ensures.asks
+pub returns-in-Ok-clause-of_sources : goal.returns-in-Ok-clause-of_sources
+returns-in-Ok-clause-of_sources g c =
+    asked_of_sources c.program.result.now (program_in c.in_ok-code.code) c.in-Ok.inputs (asked_by c.prepare.result) c.program.ensures c.in-Ok.ensures.script c.in_ok-code.ensures.source c.prepare.ensures.asks
 
 pub returns-in-Err-clause-goes : goal.returns-in-Err-clause-goes
 returns-in-Err-clause-goes g c = λ told known go.

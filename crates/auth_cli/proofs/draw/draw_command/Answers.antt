@@ -8,7 +8,7 @@ use Rattle.file_commands.proofs.Possible.{found_possible, told_possible}
 use Rattle.file_commands.proofs.Words.{ends_apart, text_at}
 use Rattle.auth_cli.specs.PreparedDrawings.{drawing_of}
 use Rattle.auth_cli.proofs.DrawCounted.{drawing_counted, drawing_possible, undrawn_counted}
-use Rattle.auth_cli.proofs.DrawRuns.{drawing_apart, drawn_from, drawn_of_texts, undrawn_apart}
+use Rattle.auth_cli.proofs.DrawRuns.{drawing_apart, drawn_from, drawn_of_sources, undrawn_apart}
 use Rattle.auth_cli.proofs.OnlineRuns.{halted_at, same_seen}
 use Rattle.auth_cli.proofs.draw.draw_command.Goals as goal
 
@@ -20,7 +20,7 @@ returns-in-Ok-clause-ends g c =
     let seen = outside g.F.Files.contents g.F.Files.stores g.F.Source.faults g.F.Files.store_faults g.O.Sink.written g.O.Sink.faults c.read_drawing.new.files c.args.out.now in
     inr (record {
       drawing = d;
-      calls = record { means = λ files known. drawing_apart words files d c.requires (read.goes files known); of_texts = drawn_of_texts words d c.requires read.of_texts };
+      calls = record { means = λ files known. drawing_apart words files d c.requires (read.goes files known); of_sources = drawn_of_sources words d c.requires read.of_sources };
       ends = drawn_from d _ seen _ _ _ c.draw.result (same_seen _ _ _ _ _ _ _ _ _ _ read.contents read.stores read.cause read.store_faults) (c.draw.ensures seen);
     })
 

@@ -40,13 +40,13 @@ returns-in-Ok-clause-goes g c = λ told known go.
 pub returns-in-Ok-clause-ready : goal.returns-in-Ok-clause-ready
 returns-in-Ok-clause-ready g c = rw c.program.ensures at c.in-Ok.ensures.called
 
-pub returns-in-Ok-clause-of_texts : goal.returns-in-Ok-clause-of_texts
-returns-in-Ok-clause-of_texts g c =
+pub returns-in-Ok-clause-of_sources : goal.returns-in-Ok-clause-of_sources
+returns-in-Ok-clause-of_sources g c =
     let words = c.args.words.now in
     let p = program_in c.in_ok-code.code in
     let role = rw c.program.ensures at c.in-Ok.ensures.role in
     let told = role_told (named_of p) words.call.role.now words.call.fuel.now (role_of p c.in-Ok.field-0.call.called) role in
-    record { program = c.in_ok-code.ensures.text; called = told.1; words = (told.0, told.2, c.in-Ok.ensures.port) }
+    record { program = c.in_ok-code.ensures.source; called = told.1; words = (told.0, told.2, c.in-Ok.ensures.port) }
 
 pub returns-in-Err-clause-goes : goal.returns-in-Err-clause-goes
 returns-in-Err-clause-goes g c = λ told known go.

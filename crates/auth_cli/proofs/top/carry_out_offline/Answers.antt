@@ -1,8 +1,8 @@
 use Rattle.auth_cli.specs.NetRows.{use_no_net}
-use Rattle.auth_cli.proofs.AskTruths.{texts_truth}
+use Rattle.auth_cli.proofs.AskTruths.{asked_truth}
 use Rattle.std.proofs.Common.{None, refl, sym, subst}
 use Rattle.command_words.specs.Commands.{IsOfCommand, texts}
-use Rattle.command_words.specs.declared.command.Command.TheVariants.{Check, Init, Ideal, Step, Shallow, Migrate, Prove, Verify, Audit, Library, Gen, Pieces, Fetch}
+use Rattle.command_words.specs.declared.command.Command.TheVariants.{Check, Init, Ideal, Step, Shallow, Migrate, Prove, Verify, Audit, Library, Gen, Pieces, Fetch, Emit}
 use Rattle.file_commands.specs.Statuses.{MayAnswer}
 use Rattle.file_commands.proofs.Words.{counted, ends_known, reached_known, within}
 use Rattle.auth_cli.proofs.top.carry_out_offline.Goals as goal
@@ -165,3 +165,15 @@ returns-in-Fetch-clause-possible g c = subst (λ command. MayAnswer command c.fe
 
 pub returns-in-Fetch-clause-reached : goal.returns-in-Fetch-clause-reached
 returns-in-Fetch-clause-reached g c = λ is. reached_known c.args.command Fetch (texts c.args.words.now) _ _ c.in-Fetch.is (c.fetch_command.ensures.reached is)
+
+pub emit_command-requires : goal.emit_command-requires
+emit_command-requires g c = counted Emit c.args.words.now refl (subst (λ command. IsOfCommand command (texts c.args.words.now)) c.in-Emit.is c.requires.command)
+
+pub returns-in-Emit-clause-ends : goal.returns-in-Emit-clause-ends
+returns-in-Emit-clause-ends g c = ends_known c.args.command Emit (texts c.args.words.now) _ _ c.emit_command.result c.in-Emit.is c.emit_command.ensures.ends
+
+pub returns-in-Emit-clause-possible : goal.returns-in-Emit-clause-possible
+returns-in-Emit-clause-possible g c = subst (λ command. MayAnswer command c.emit_command.result) (sym c.in-Emit.is) c.emit_command.ensures.possible
+
+pub returns-in-Emit-clause-reached : goal.returns-in-Emit-clause-reached
+returns-in-Emit-clause-reached g c = λ is. reached_known c.args.command Emit (texts c.args.words.now) _ _ c.in-Emit.is (c.emit_command.ensures.reached is)

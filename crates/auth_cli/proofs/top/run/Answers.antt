@@ -9,7 +9,7 @@ use Rattle.file_commands.specs.Ending.{IsOfFault}
 use Rattle.file_commands.specs.TrueLines.{TellsOutcome}
 use Rattle.auth_cli.proofs.AnsweredRuns.{audited_run, prove_tells, proved_run, split_tells}
 use Rattle.auth_cli.proofs.Answered.{answered, fault_line, memory_line, part_written, stored, stored_first}
-use Rattle.auth_cli.proofs.AskTruths.{texts_truth}
+use Rattle.auth_cli.proofs.AskTruths.{asked_truth}
 use Rattle.auth_cli.proofs.Called.{refused_code}
 use Rattle.auth_cli.proofs.DrawTruths.{drawn_truth}
 use Rattle.auth_cli.proofs.NetRuns.{command_is_offline, fetched_run, reached_risen, run_calls, run_dials, run_fault, run_listens, run_offline, run_rose, run_writes, true_run}
@@ -30,7 +30,7 @@ returns-clause-asks g c = λ called is ask.
     (c.ended.result, c.code.ensures, (run_calls _ _ _ _ _ _ c.ended.result Ask (invocation_of (texts c.args.words.now)) called is ask c.ended.ensures.ends).0)
 
 pub returns-clause-told_truth : goal.returns-clause-told_truth
-returns-clause-told_truth g c = λ called is ask asking name calls. texts_truth asking calls.of_texts
+returns-clause-told_truth g c = λ called is ask asking name calls. asked_truth asking calls.of_sources
 
 pub returns-clause-mirrors : goal.returns-clause-mirrors
 returns-clause-mirrors g c = λ called is mirror.
@@ -41,7 +41,7 @@ returns-clause-draws g c = λ called is draw.
     (c.ended.result, c.code.ensures, (run_calls _ _ _ _ _ _ c.ended.result Draw (invocation_of (texts c.args.words.now)) called is draw c.ended.ensures.ends).0)
 
 pub returns-clause-drawn_truth : goal.returns-clause-drawn_truth
-returns-clause-drawn_truth g c = λ called is draw drawing calls. drawn_truth called.texts drawing calls.of_texts
+returns-clause-drawn_truth g c = λ called is draw drawing calls. drawn_truth called.texts drawing calls.of_sources
 
 pub returns-clause-hosts : goal.returns-clause-hosts
 returns-clause-hosts g c = λ called is host.

@@ -5,7 +5,7 @@ use Rattle.core_terms.specs.declared.program.Program.{Program}
 use Rattle.code_gen.specs.Programs.{program_in}
 use Rattle.file_commands.specs.Answer.{with_program_file}
 use Rattle.file_commands.specs.ReadPrograms.{named_of}
-use Rattle.file_commands.specs.SoundPrograms.{IsOfText}
+use Rattle.file_commands.specs.SoundPrograms.{IsOfTextOrObject}
 use Rattle.file_commands.proofs.Steps.{halted}
 use Rattle.file_commands.proofs.machine_calls.read_code.Goals as goal
 
@@ -14,5 +14,5 @@ returns-in_err-program-clause-goes g c = λ told known.
     let err = err_from_is_err_and c.from_residual.result c.from_residual.ensures.1 in
     halted (with_program_file (told c.args.name.now)) (λ code. named_of (program_in code)) c.from_residual.result _ (cc) (c.in_err-program.ensures.goes told known)
 
-pub returns-clause-text : goal.returns-clause-text
-returns-clause-text g c = subst (λ (p : Program). IsOfText (meaning p)) (sym c.in_ok-generate.ensures) c.in_ok-program.ensures.text
+pub returns-clause-source : goal.returns-clause-source
+returns-clause-source g c = subst (λ (p : Program). IsOfTextOrObject (meaning p)) (sym c.in_ok-generate.ensures) c.in_ok-program.ensures.source

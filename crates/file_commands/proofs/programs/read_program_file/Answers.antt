@@ -1,14 +1,10 @@
-use Rattle.std.proofs.lemmas.Result.{IfOk-weaker}
-use Rattle.printed_lines.specs.declared.refusal.Argument.TheVariants.{Program}
-use Rattle.file_commands.specs.Answer.{with_declared_file}
-use Rattle.file_commands.specs.FueledRoles.{DeclaredProgram}
-use Rattle.file_commands.specs.ReadPrograms.{declared_of}
-use Rattle.file_commands.proofs.Steps.{goes_on_as}
+use Rattle.std.proofs.lemmas.Result.{err_from_is_err_and}
+use Rattle.file_commands.specs.Answer.{with_object_or_text, with_program_bytes}
+use Rattle.file_commands.specs.ReadPrograms.{named_of}
+use Rattle.file_commands.proofs.Steps.{halts_first}
 use Rattle.file_commands.proofs.programs.read_program_file.Goals as goal
 
-pub returns-clause-goes : goal.returns-clause-goes
-returns-clause-goes g c = λ told known.
-    goes_on_as (with_declared_file Program (told c.args.name.now)) (λ (p : DeclaredProgram). p.named) declared_of c.read_named_program.result (c.read_named_program.ensures.goes told known)
-
-pub returns-clause-text : goal.returns-clause-text
-returns-clause-text g c = IfOk-weaker c.read_named_program.result _ _ (λ p of. (of.0, of.1)) c.read_named_program.ensures.text
+pub returns-in_err-bytes-clause-goes : goal.returns-in_err-bytes-clause-goes
+returns-in_err-bytes-clause-goes g c = λ told known.
+    let halted = err_from_is_err_and c.from_residual.result c.from_residual.ensures.1 in
+    halts_first (with_program_bytes (told c.args.name.now)) with_object_or_text named_of c.from_residual.result _ (cc) (c.in_err-bytes.ensures.goes told known)
