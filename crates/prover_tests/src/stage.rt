@@ -115,6 +115,14 @@ fn takes_ints(program: &Program, function: FunctionId) -> bool
     }
 }
 
+/// Whether a role of this name reads the state, and both the state and the argument are ints.
+pub fn takes_call(code: &Code, name: &str) -> bool {
+    match reading(code.program(), name) {
+        Some(role) => takes_ints(code.program(), role),
+        None => false,
+    }
+}
+
 /// Puts the state and the argument of a call into a store of the program's limit.
 fn put_call(code: &Code, store: &mut Store, call: Call) -> Result<PutCall, AllocError>
     ensures limit { OnOk result (HasLimit (program_of code.now) (store_lent store.new)) }
