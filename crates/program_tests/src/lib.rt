@@ -1,4 +1,4 @@
-//! Tests of the top call: the words of a command line, what it says of the texts of programs, the calls of roles, the states that it
+//! Tests of the top call: the words of a command line, what it says of the texts and objects of programs, the calls of roles, the states that it
 //! makes and keeps, the inputs that it refuses, and how values are printed.
 #![tactic(auto)]
 
@@ -12,6 +12,8 @@ mod inputs;
 mod library;
 #[cfg(test)]
 mod moved;
+#[cfg(test)]
+mod objects;
 #[cfg(test)]
 mod programs;
 #[cfg(test)]
