@@ -6,7 +6,8 @@ use Rattle.std.proofs.lemmas.Option.{get_or_from_slice_get, slice_get-map, slice
 use Rattle.core_terms.specs.Programs.{meaning, types_of}
 use Rattle.core_terms.specs.RoleViews.{role_kind_of, role_of}
 use Rattle.core_terms.specs.Roles as definition
-use Rattle.core_terms.specs.Roles.{HasRoleShape, IsRole, ReadsState, argument_type, program_roles, role_parameters, role_result}
+use Rattle.core_terms.specs.Roles.{argument_type, program_roles}
+use Rattle.core_terms.specs.RoleTypes.{HasRoleShape, IsRole, ReadsState, role_parameters, role_result}
 use Rattle.core_terms.specs.Terms.{Program, Kind, Inner, Init, Query, Update, Function, function_at, no_function}
 use Rattle.core_terms.specs.Types.{PairTy, Ty, UnitTy}
 use Rattle.core_terms.specs.declared.program.Program as code

@@ -2,7 +2,8 @@
 use Rattle.std.proofs.Common.{◌≡◌, ℕ, true, List, Some, None, Ok, Err, refl, sym, ap, ◌∙◌, subst}
 use Rattle.core_terms.specs.Formats.{Hash}
 use Rattle.core_terms.specs.Roles as definition
-use Rattle.core_terms.specs.Roles.{HasRoleShape, argument_type}
+use Rattle.core_terms.specs.Roles.{argument_type}
+use Rattle.core_terms.specs.RoleTypes.{HasRoleShape}
 use Rattle.core_terms.specs.Terms.{Program, function_at}
 use Rattle.core_terms.specs.Types.{Ty}
 use Rattle.core_terms.specs.declared.outcome.Outcome.{Outcome}
@@ -12,7 +13,7 @@ use Rattle.ideal_meaning.specs.Checked.{verdict_on}
 use Rattle.ideal_meaning.specs.Following.{after_bytes}
 use Rattle.ideal_meaning.specs.Ideal as ideal
 use Rattle.ideal_meaning.specs.Told.{cause_told}
-use Rattle.mode_vm.specs.StateCalls.{SpellsOutcome}
+use Rattle.ideal_meaning.specs.SpelledOutcomes.{SpellsOutcome}
 use Rattle.reuse_buffer.specs.Kept.{Kept, kept}
 use Rattle.session_meaning.specs.Calls.{reads_state, role_in, state_made}
 use Rattle.session_meaning.specs.Client as meant

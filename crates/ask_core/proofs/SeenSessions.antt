@@ -11,7 +11,8 @@ use Rattle.session_tables.proofs.Related.{find_related}
 use Rattle.session_tables.specs.Rows.{rows_in}
 use Rattle.session_tables.specs.declared.table.Entry.{Entry}
 use Rattle.ask_core.specs.Clients.{Stands}
-use Rattle.ask_core.specs.Sessions.{IsCalledRole, calls_at, is_calling, waits_at}
+use Rattle.ask_core.specs.Sessions.{IsCalledRole}
+use Rattle.session_meaning.specs.Waiting.{calls_at, is_calling, waits_at}
 use Rattle.ask_core.specs.declared.seen.CalledRole.{CalledRole}
 use Rattle.ask_core.specs.Turns.{standing_called, standing_calls, standing_waits}
 use Rattle.ask_core.specs.declared.standing.Standing.{Standing}

@@ -2,7 +2,7 @@
 use Rattle.std.proofs.Common.{◌≡◌, ℕ, List, refl, sym, ap, ◌∙◌, subst}
 use Rattle.core_terms.specs.Programs.{meaning, types_of}
 use Rattle.core_terms.specs.ProgramTypes.{types_meaning}
-use Rattle.core_terms.specs.Roles.{HasRoleShape}
+use Rattle.core_terms.specs.RoleTypes.{HasRoleShape}
 use Rattle.core_terms.specs.RoleViews.{role_kind_of, role_of}
 use Rattle.core_terms.specs.Spelling.{Spells, spelling}
 use Rattle.core_terms.specs.Terms as tree
@@ -14,7 +14,7 @@ use Rattle.core_terms.specs.declared.program_types.Types.{Types}
 use Rattle.core_terms.specs.declared.roles.Role.{Role}
 use Rattle.core_terms.specs.declared.outcome.Outcome.TheVariants as told
 use Rattle.ideal_meaning.specs.Ideal as ideal
-use Rattle.mode_vm.specs.StateCalls.{SpellsOutcome}
+use Rattle.ideal_meaning.specs.SpelledOutcomes.{SpellsOutcome}
 use Rattle.session_meaning.specs.Calls.{state_made}
 use Rattle.session_meaning.specs.Client.{state_behind}
 use Rattle.shallow_codec.specs.ProgramTypes.{table, ty_of}

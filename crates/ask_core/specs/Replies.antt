@@ -4,7 +4,7 @@ use Rattle.core_terms.specs.Formats.{Hash}
 use Rattle.core_terms.specs.Terms.{Program}
 use Rattle.core_terms.specs.Types.{Ty, UnitTy}
 use Rattle.ideal_meaning.specs.Ideal as ideal
-use Rattle.mode_vm.specs.StateCalls.{SpellsOutcome}
+use Rattle.ideal_meaning.specs.SpelledOutcomes.{SpellsOutcome}
 use Rattle.session_meaning.specs.Calls.{role_in}
 use Rattle.session_meaning.specs.Client as meant
 use Rattle.session_meaning.specs.Messages as message

@@ -1,42 +1,18 @@
 -- What is seen of a client's sessions: which of them wait for a reply, and what they call.
-use Rattle.std.specs.Prelude.{◌≡◌, ℕ, zero, suc, ◌+◌, Bool, true, false, if◌then◌else◌, List, Option, Some, None}
-use Rattle.std.specs.List.{list_any}
+use Rattle.std.specs.Prelude.{◌≡◌, ℕ, zero, suc, ◌+◌, Bool, false, if◌then◌else◌, List, Option, Some, None}
 use Rattle.core_terms.specs.RoleViews.{role_kind_of}
-use Rattle.core_terms.specs.Roles.{Role}
 use Rattle.core_terms.specs.Terms.{Program}
 use Rattle.core_terms.specs.TypeTables.{type_at}
 use Rattle.core_terms.specs.Types.{Ty}
 use Rattle.mode_vm.specs.Meanings.{program_of}
-use Rattle.session_meaning.specs.Calls.{no_role, role_in}
 use Rattle.session_meaning.specs.Client as meant
-use Rattle.session_meaning.specs.Tables.{Numbered, find}
+use Rattle.session_meaning.specs.Tables.{find}
 use Rattle.session_tables.specs.Tables.{rows_of}
 use Rattle.ask_core.specs.Clients.{IsClient}
 use Rattle.ask_core.specs.Turns.{waits_in}
 use Rattle.ask_core.specs.declared.client.AskCore.{AskCore}
 use Rattle.ask_core.specs.declared.seen.CalledRole.{CalledRole}
-
--- a session calls, and the role that it calls: one that can't be called where it doesn't call
-abbrev pub is_calling : Option meant.Standing → Bool
-is_calling (Some (meant.Calling known asked)) = true
-is_calling standing = false
-
-abbrev pub called_in : Program → Option meant.Standing → Role
-called_in P (Some (meant.Calling known asked)) = role_in P asked.role
-called_in P standing = no_role
-
--- some session waits for a reply; some session calls
-abbrev pub waits_at : Numbered meant.Standing → Bool
-waits_at row = meant.is_waiting (Some row.value)
-
-abbrev pub some_waits : meant.Client → Bool
-some_waits c = list_any waits_at c.sessions
-
-abbrev pub calls_at : Numbered meant.Standing → Bool
-calls_at row = is_calling (Some row.value)
-
-abbrev pub some_calls : meant.Client → Bool
-some_calls c = list_any calls_at c.sessions
+use Rattle.session_meaning.specs.Waiting.{called_in, is_calling}
 
 -- the kind and the result's type of the role that a session calls are these; or the session doesn't call
 abbrev pub IsCalledRole : List Ty → Program → Option meant.Standing → Option CalledRole → Type 0

@@ -1,7 +1,7 @@
 // The bytes of a state and of a call, before they are sent.
 ghost use Rattle.std.specs.Prelude.{◌≡◌, ◌≤◌, ◌^◌, IfSome, option_copied};
 ghost use Rattle.core_terms.specs.Programs.{meaning, types_of};
-ghost use Rattle.core_terms.specs.Roles.{HasRoleShape};
+ghost use Rattle.core_terms.specs.RoleTypes.{HasRoleShape};
 ghost use Rattle.core_terms.specs.RoleViews.{role_of};
 ghost use Rattle.mode_vm.specs.Meanings.{program_of};
 ghost use Rattle.ask_core.specs.Checks.{CallRead, IsCalled, StateRead};

@@ -27,7 +27,8 @@ pub struct CalledRole {
 }
 
 impl<H: Hash32> AskCore<H> {
-    ghost use Rattle.ask_core.specs.Sessions.{StandsFor, some_calls, some_waits};
+    ghost use Rattle.ask_core.specs.Sessions.{StandsFor};
+    ghost use Rattle.session_meaning.specs.Waiting.{some_calls, some_waits};
 
     /// Whether some session waits for a reply: to its greeting, its call or its leave.
     pub fn any_waits(&self) -> bool

@@ -1,11 +1,11 @@
 // The state behind an accepted outcome.
 ghost use Rattle.std.specs.Prelude.{◌≡◌, IfOk};
 ghost use Rattle.core_terms.specs.Programs.{meaning, types_of};
-ghost use Rattle.core_terms.specs.Roles.{HasRoleShape};
+ghost use Rattle.core_terms.specs.RoleTypes.{HasRoleShape};
 ghost use Rattle.core_terms.specs.RoleViews.{role_kind_of, role_of};
 ghost use Rattle.core_terms.specs.TypeTables.{type_at};
 ghost use Rattle.ideal_meaning.specs.Ideal as ideal;
-ghost use Rattle.mode_vm.specs.StateCalls.{SpellsOutcome};
+ghost use Rattle.ideal_meaning.specs.SpelledOutcomes.{SpellsOutcome};
 ghost use Rattle.session_meaning.specs.Calls.{state_made};
 ghost use Rattle.session_meaning.specs.Client.{state_behind};
 ghost use Rattle.verifier_mode.specs.Verdicts.{IsTold};

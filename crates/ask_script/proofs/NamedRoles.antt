@@ -5,7 +5,7 @@ use Rattle.std.specs.Option.{option_and_then}
 use Rattle.std.proofs.lemmas.Option.{slice_get-map, slice_get_read}
 use Rattle.std.proofs.lemmas.List.{length-map}
 use Rattle.core_terms.specs.Programs.{meaning, types_of}
-use Rattle.core_terms.specs.ProgramLimits.{IsWithinLimits}
+use Rattle.core_terms.specs.ProgramSizes.{IsWithinLimits}
 use Rattle.core_terms.specs.RoleViews.{role_kind_of, role_of}
 use Rattle.core_terms.specs.Roles as definition
 use Rattle.core_terms.specs.Roles.{is_entered, program_roles, roles_among}

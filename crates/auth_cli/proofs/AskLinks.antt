@@ -6,12 +6,15 @@ use Rattle.std.specs.Io.KnownBytes.{append_known, prepend_known}
 use Rattle.core_terms.specs.Terms.{Program}
 use Rattle.lam_outside.specs.Causes.{Rose}
 use Rattle.lam_outside.specs.Links.{Linked, IsMade, links_so_far}
-use Rattle.lam_outside.specs.Moments.{AtEachRead, Moment}
+use Rattle.lam_outside.specs.Moments.{Moment}
+use Rattle.lam_outside.specs.LinkSteps.{AtEachRead}
 use Rattle.printed_lines.specs.Lines.{link_fault_line}
 use Rattle.printed_syntax.specs.Literals.{ConstructorNames}
 use Rattle.script_play.specs.DeedLines.{bytes_sent}
-use Rattle.script_play.specs.Halting.{BreaksAt, BreaksOn, FailsAt, HaltsAt, PlaysTo}
-use Rattle.script_play.specs.Playing.{PlayCause, PlaysAs, World, first_sent, world}
+use Rattle.script_play.specs.Halting.{BreaksAt, FailsAt, HaltsAt}
+use Rattle.script_play.specs.HaltingInCode.{BreaksOn, PlaysTo}
+use Rattle.script_play.specs.Playing.{PlaysAs, World, first_sent, world}
+use Rattle.script_play.specs.PlayingInCode.{PlayCause}
 use Rattle.script_play.specs.Plays.{Play}
 use Rattle.script_play.specs.Prompt.{IsPromptOn}
 use Rattle.script_play.specs.declared.halt.Halt.TheVariants as halt

@@ -12,7 +12,7 @@ use Rattle.ask_script.specs.declared.step.Step.{Step}
 use Rattle.file_commands.specs.Answer.{Answer, Asking, script_read, with_script, with_steps}
 use Rattle.file_commands.specs.Halting.{GoesOn, InHand, of_script_fault}
 use Rattle.file_commands.specs.ReadPrograms.{named_of}
-use Rattle.file_commands.specs.SoundPrograms.{IsOfTextOrObject}
+use Rattle.file_commands.specs.FilePrograms.{IsOfTextOrObject}
 use Rattle.file_commands.specs.declared.report.Halt.{Halt}
 use Rattle.file_commands.specs.declared.report.Halt.TheVariants.{Usage, Refused, ReadFault, NoMemory}
 use Rattle.auth_cli.specs.Asking.{IsOfScript, IsOfSources}

@@ -8,7 +8,7 @@ use Rattle.file_commands.specs.Answer.{Answer, Asking, answer_with, unasked_answ
 use Rattle.auth_cli.specs.Asking.{EndsAsking, IsOfWords, MeansAsking}
 use Rattle.file_commands.specs.Ending.{Outside}
 use Rattle.auth_cli.specs.OnlineRuns.{NetSeen}
-use Rattle.auth_cli.specs.PreparedClients.{TellsPort}
+use Rattle.auth_cli.specs.ToldNumbers.{TellsPort}
 use Rattle.file_commands.specs.Reaching.{IsReached}
 use Rattle.file_commands.specs.declared.status.Status.{Status}
 use Rattle.file_commands.proofs.Words.{apart, reached_apart, text_at}

@@ -9,7 +9,8 @@ use Rattle.link_ends.specs.declared.end.ServingEnd.TheVariants as end
 use Rattle.serve_core.specs.declared.server.ServeCore.{ServeCore}
 use Rattle.session_meaning.specs.Calls.{RoleCall}
 use Rattle.session_meaning.specs.Server.{Server, last_turn}
-use Rattle.session_turns.specs.Keepers.{HasStayed, IsFront, KeepsBetween}
+use Rattle.session_turns.specs.Keepers.{HasStayed, KeepsBetween}
+use Rattle.session_meaning.specs.Beginnings.{IsFront}
 use Rattle.session_turns.specs.declared.commit.Commit.{Commit}
 use Rattle.version_journal.specs.FoundJournals.{KeepsFound}
 use Rattle.version_journal.specs.declared.journal.Journal.{Journal}

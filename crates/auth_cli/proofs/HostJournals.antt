@@ -10,7 +10,7 @@ use Rattle.images.specs.Images.{Root, image_of}
 use Rattle.lam_outside.specs.Disks.{DiskFile, Moments, settled}
 use Rattle.session_meaning.specs.Calls.{RoleCall}
 use Rattle.session_meaning.specs.Server.{Server, version_at}
-use Rattle.session_turns.specs.Keepers.{IsFront}
+use Rattle.session_meaning.specs.Beginnings.{IsFront}
 use Rattle.session_turns.specs.Rows.{AreAlike}
 use Rattle.session_turns.specs.Sharing.{IsCommit}
 use Rattle.session_turns.specs.declared.commit.Commit.{Commit}
@@ -20,7 +20,7 @@ use Rattle.version_journal.specs.Gates.{AtLast, ForTold, IsClosedBehind, IsKept,
 use Rattle.version_journal.specs.Journals.{SpellsJournal, journal_front, journal_head, record_bytes}
 use Rattle.version_journal.specs.Keeping.{SpellsFirst}
 use Rattle.version_journal.specs.AtGates.{IsAt}
-use Rattle.version_journal.specs.Openings.{IsSynced}
+use Rattle.version_journal.specs.Synced.{IsSynced}
 use Rattle.version_journal.specs.declared.journal.Journal.{Journal}
 use Rattle.file_commands.specs.Answer.{Serving}
 use Rattle.journal_commands.specs.DisksSeen.{DiskSeen, FromChosen}

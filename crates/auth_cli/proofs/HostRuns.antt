@@ -23,7 +23,8 @@ use Rattle.auth_cli.specs.HostSteps.{Hosts}
 use Rattle.auth_cli.specs.Hosting.{DiskFails, EndsHosting, EndsUnhosted, Goes, HostCourse, IsOfHostWords, MeansHosting, NotKept, with_hosting}
 use Rattle.auth_cli.specs.OnlineRuns.{NetSeen}
 use Rattle.auth_cli.specs.PreparedHosts.{IsPreparedHost}
-use Rattle.auth_cli.specs.PreparedServers.{TellNumbers, numbers_held}
+use Rattle.auth_cli.specs.PreparedServers.{numbers_held}
+use Rattle.auth_cli.specs.ToldNumbers.{TellNumbers}
 use Rattle.auth_cli.specs.declared.hosting.HostWords.{HostWords}
 use Rattle.auth_cli.specs.declared.hosting.PreparedHost.{PreparedHost}
 use Rattle.auth_cli.proofs.ServeRuns.{same_numbers}

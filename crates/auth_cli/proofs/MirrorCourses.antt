@@ -5,7 +5,7 @@ use Rattle.std.specs.Option.{ForSome}
 use Rattle.std.specs.Io.KnownBytes.{append_known}
 use Rattle.lam_outside.specs.Causes.{Rose}
 use Rattle.lam_outside.specs.Links.{Linked}
-use Rattle.link_ends.specs.Ends.{ServingCause}
+use Rattle.link_ends.specs.EndCauses.{ServingCause}
 use Rattle.link_ends.specs.declared.end.ServingEnd.{ServingEnd}
 use Rattle.link_ends.specs.declared.end.ServingEnd.TheVariants as end
 use Rattle.mirror_links.specs.AnsweredLinks.{AnswersLinks}

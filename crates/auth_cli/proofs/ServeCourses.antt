@@ -8,10 +8,10 @@ use Rattle.lam_outside.specs.Links.{Linked}
 use Rattle.printed_lines.specs.Lines.{listening_line}
 use Rattle.serve_core.specs.Serving.{Serves}
 use Rattle.serve_core.specs.declared.server.ServeCore.{ServeCore}
-use Rattle.link_ends.specs.Ends.{ServingCause}
+use Rattle.link_ends.specs.EndCauses.{ServingCause}
 use Rattle.link_ends.specs.declared.end.ServingEnd.{ServingEnd}
 use Rattle.link_ends.specs.declared.end.ServingEnd.TheVariants as end
-use Rattle.serve_links.specs.ServedLinks.{ServesLinks, StaysOn}
+use Rattle.serve_links.specs.ServedLinksInCode.{ServesLinks, StaysOn}
 use Rattle.session_meaning.specs.Calls.{RoleCall}
 use Rattle.session_meaning.specs.Server.{Server}
 use Rattle.session_turns.specs.Sharing.{IsCommit}

@@ -11,9 +11,10 @@ use Rattle.serve_core.specs.Serving.{Serves}
 use Rattle.serve_core.specs.declared.server.ServeCore.{ServeCore}
 use Rattle.link_ends.specs.MoreLinks.{AreMore}
 use Rattle.link_ends.specs.declared.end.ServingEnd.TheVariants as end
-use Rattle.serve_links.specs.Histories.{own_digest, program_served, turns_of}
+use Rattle.serve_links.specs.HistoriesInCode.{own_digest, program_served, turns_of}
 use Rattle.code_gen.specs.Programs.{program_in}
-use Rattle.serve_links.specs.ServedLinks.{AreCounted, AreMoreInPart, AreServed, AreServedInPart, ServesLinks, StaysOn}
+use Rattle.serve_links.specs.ServedLinks.{AreServed, AreServedInPart}
+use Rattle.serve_links.specs.ServedLinksInCode.{AreCounted, AreMoreInPart, ServesLinks, StaysOn}
 use Rattle.file_commands.specs.Answer.{Serving}
 use Rattle.file_commands.specs.FueledRoles.{DigestedProgram}
 use Rattle.file_commands.specs.ReadPrograms.{digested_of}

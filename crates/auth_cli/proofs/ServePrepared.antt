@@ -10,7 +10,7 @@ use Rattle.core_terms.specs.Values.{Value, UnitV}
 use Rattle.mode_vm.specs.Meanings.{program_of}
 use Rattle.serve_core.specs.Serving.{Serves}
 use Rattle.serve_core.specs.declared.server.ServeCore.{ServeCore}
-use Rattle.serve_links.specs.Histories.{HasServed, program_served}
+use Rattle.serve_links.specs.HistoriesInCode.{HasServed, program_served}
 use Rattle.session_meaning.specs.Begun.{IsBegun}
 use Rattle.session_meaning.specs.Server.{Server, Shared, begun_server, new_server}
 use Rattle.session_turns.specs.Versions.{IsVersion}

@@ -8,7 +8,8 @@ use Rattle.lam_outside.specs.Told.{Contents, Names}
 use Rattle.file_commands.specs.Answer.{Answer, Serving, ServingNumbers, answer_with, unserved_answer, with_serving}
 use Rattle.file_commands.specs.Ending.{Outside}
 use Rattle.file_commands.specs.Reaching.{IsReached}
-use Rattle.auth_cli.specs.PreparedServers.{TellNumbers, IsPrepared, numbers_held, numbers_served}
+use Rattle.auth_cli.specs.PreparedServers.{IsPrepared, numbers_held}
+use Rattle.auth_cli.specs.ToldNumbers.{TellNumbers, numbers_served}
 use Rattle.auth_cli.specs.OnlineRuns.{NetSeen}
 use Rattle.auth_cli.specs.Serving.{EndsServing, IsOfWords, MeansServing}
 use Rattle.auth_cli.specs.declared.serving.PreparedServer.{PreparedServer}

@@ -10,7 +10,8 @@ use Rattle.lam_outside.specs.Causes.{Rose}
 use Rattle.lam_outside.specs.Links.{Linked}
 use Rattle.lam_outside.specs.Told.{Contents, Stores}
 use Rattle.printed_lines.specs.Lines.{link_fault_line}
-use Rattle.script_play.specs.Halting.{BreaksAt, BreaksOn}
+use Rattle.script_play.specs.Halting.{BreaksAt}
+use Rattle.script_play.specs.HaltingInCode.{BreaksOn}
 use Rattle.script_play.specs.PlayRuns.{TellsTruth}
 use Rattle.script_play.specs.Playing.{PlaysAs, world}
 use Rattle.script_play.specs.Prompt.{IsPromptOn}
@@ -18,13 +19,13 @@ use Rattle.script_play.specs.declared.halt.Halt.TheVariants as halt
 use Rattle.session_meaning.specs.Messages.{Messages, Reply, messages, reply_of}
 use Rattle.file_commands.specs.Answer.{Answer, Asking, answer_with, with_asking}
 use Rattle.file_commands.specs.Ending.{EndsAs, Outside}
-use Rattle.file_commands.specs.SoundPrograms.{IsOfTextOrObject}
+use Rattle.file_commands.specs.FilePrograms.{IsOfTextOrObject}
 use Rattle.file_commands.specs.Telling.{TellsText}
 use Rattle.auth_cli.specs.AskSteps.{IsHaltedFrom, IsPlayedFrom, PlayLinks, PlaysAndStores}
 use Rattle.auth_cli.specs.Asking.{AskCounts, CallsAsk, EndsAsking, EndsPlay, FailsToDial, IsAsk, IsAsking, IsEndTold, IsOfScript, IsOfSources, IsOfWords, IsPlayedOn, IsStateStored, MeansAsking, PlayEnd, PlayFaults, PlayWrites, TellsTrueOutcomes, asked_play, play_status}
 use Rattle.auth_cli.specs.CourseRows.{faults, rose}
 use Rattle.auth_cli.specs.OnlineRuns.{CountsBy, NetSeen}
-use Rattle.auth_cli.specs.PreparedClients.{TellsPort}
+use Rattle.auth_cli.specs.ToldNumbers.{TellsPort}
 use Rattle.file_commands.specs.declared.status.Status.{Status}
 use Rattle.file_commands.specs.declared.status.Status.TheVariants.{Done, Rejected, ReadFault, WriteFault, NoMemory}
 use Rattle.link_ends.specs.MoreLinks.{bytes_on}

@@ -1,7 +1,7 @@
 -- The steps of `ask` on the link that was made: what they leave, and how much of it was told.
 use Rattle.std.specs.Prelude.{◌≡◌, ℕ, List, Option, Some, None, unwrap_or, Err, IfErr}
 use Rattle.lam_outside.specs.Causes.{Rose}
-use Rattle.script_play.specs.Halting.{BreaksOn}
+use Rattle.script_play.specs.HaltingInCode.{BreaksOn}
 use Rattle.script_play.specs.Playing.{PlaysAs, world}
 use Rattle.script_play.specs.declared.halt.Halt.TheVariants as halt
 use Rattle.session_meaning.specs.Messages.{messages, reply_of}

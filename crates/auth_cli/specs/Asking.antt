@@ -24,8 +24,8 @@ use Rattle.file_commands.specs.Ending.{EndsAs, Outside}
 use Rattle.file_commands.specs.FueledRoles.{NamedProgram}
 use Rattle.auth_cli.specs.NetFaults.{NetFaults}
 use Rattle.auth_cli.specs.OnlineRuns.{CountsBy, NetSeen}
-use Rattle.auth_cli.specs.PreparedClients.{TellsPort}
-use Rattle.file_commands.specs.SoundPrograms.{IsOfTextOrObject}
+use Rattle.auth_cli.specs.ToldNumbers.{TellsPort}
+use Rattle.file_commands.specs.FilePrograms.{IsOfTextOrObject}
 use Rattle.file_commands.specs.Telling.{TellsText}
 use Rattle.file_commands.specs.declared.status.Status.{Status}
 use Rattle.file_commands.specs.declared.status.Status.TheVariants.{Done, Rejected, ReadFault, WriteFault, NoMemory}

@@ -25,7 +25,7 @@ use Rattle.file_commands.specs.Answer.{Answer, Serving, answer_with, with_servin
 use Rattle.file_commands.specs.Ending.{EndsAs, Outside}
 use Rattle.auth_cli.specs.NetFaults.{NetFaults}
 use Rattle.auth_cli.specs.OnlineRuns.{CountsBy, NetSeen}
-use Rattle.auth_cli.specs.PreparedServers.{TellNumbers, numbers_served}
+use Rattle.auth_cli.specs.ToldNumbers.{TellNumbers, numbers_served}
 use Rattle.auth_cli.specs.ServeSteps.{IsCourseTold, IsEndTold, IsServer, IsStorageTold, IsUnstoredTold, StoresLast, TellsCourse}
 use Rattle.auth_cli.specs.Courses.{AreMade, Course, HasFaults, IsListening, WritesFront}
 use Rattle.auth_cli.specs.Serving.{AreServedLacking, AreServedOn, EndsServing, HasGone, HasMade, IsOfWords, IsServe, IsServing, IsStoredBy, MakesLinks, MeansServing, ServeCounts, Storage, TellsPart, TellsWhole}

@@ -36,7 +36,7 @@ use Rattle.file_commands.specs.FueledRoles.{FueledRole, NamedProgram}
 use Rattle.file_commands.specs.RoleCalls.{is_called, kind_called, program_called, result_called}
 use Rattle.file_commands.specs.RolesCalled.{IsCalled}
 use Rattle.file_commands.specs.RolesJudged.{call_of as call_held}
-use Rattle.file_commands.specs.SoundPrograms.{IsOfTextOrObject}
+use Rattle.file_commands.specs.FilePrograms.{IsOfTextOrObject}
 use Rattle.file_commands.specs.Telling.{TellsText}
 use Rattle.file_commands.specs.declared.roles.Callee.TheVariants.{OfState}
 use Rattle.file_commands.specs.declared.status.Status.{Status}
@@ -45,7 +45,7 @@ use Rattle.auth_cli.specs.Asking.{FailsToDial}
 use Rattle.auth_cli.specs.DrawSteps.{AreGivenOn, EndsOnLink, IsJudgedOn, JudgesAndTells, JudgesOn, TellsAnswer, TellsJudged, TellsLinkFault, TellsNoMemory}
 use Rattle.auth_cli.specs.Drawing.{BreaksOff, CallsDraw, DrawCounts, DrawsTrueOutcomes, EndsDialled, EndsDrawing, IsDialled, IsDraw, IsDrawing, IsDrawnOn, IsJudged, IsOfSources, IsOfWords, LacksMemory, MeansDrawing, drawn_answer, verdict_on}
 use Rattle.auth_cli.specs.OnlineRuns.{CountsBy, NetSeen}
-use Rattle.auth_cli.specs.PreparedClients.{TellsPort}
+use Rattle.auth_cli.specs.ToldNumbers.{TellsPort}
 use Rattle.auth_cli.specs.PreparedDrawings.{IsReady, TellsRole, drawing_of, drawn_with, texts_of}
 use Rattle.auth_cli.specs.declared.drawing.DrawInputs.{DrawInputs}
 use Rattle.auth_cli.specs.declared.drawing.DrawWords.{DrawWords}

@@ -25,7 +25,7 @@ use Rattle.file_commands.specs.Answer.{Answer, Drawing, RoleCall, answer_with, s
 use Rattle.file_commands.specs.Arguments.{fuel_of}
 use Rattle.file_commands.specs.Ending.{Outside, EndsAs}
 use Rattle.file_commands.specs.RoleCalls.{is_called, kind_called, program_called, result_called}
-use Rattle.file_commands.specs.SoundPrograms.{IsOfTextOrObject}
+use Rattle.file_commands.specs.FilePrograms.{IsOfTextOrObject}
 use Rattle.file_commands.specs.Telling.{TellsText}
 use Rattle.file_commands.specs.declared.status.Status.{Status}
 use Rattle.file_commands.specs.declared.status.Status.TheVariants.{NoMemory, ReadFault}
@@ -33,7 +33,7 @@ use Rattle.file_commands.specs.declared.roles.Callee.TheVariants.{OfState}
 use Rattle.auth_cli.specs.Asking.{FailsToDial}
 use Rattle.auth_cli.specs.NetFaults.{NetFaults}
 use Rattle.auth_cli.specs.OnlineRuns.{CountsBy, NetSeen}
-use Rattle.auth_cli.specs.PreparedClients.{TellsPort}
+use Rattle.auth_cli.specs.ToldNumbers.{TellsPort}
 
 -- VERDICTS
 -- the verdict on a call over these answers, in the order in which they came

@@ -18,7 +18,7 @@ use Rattle.session_turns.specs.Sharing.{IsCommit}
 use Rattle.version_journal.specs.AtGates.{IsAt}
 use Rattle.version_journal.specs.Gates.{AtLast, LeavesOnly, Passed}
 use Rattle.version_journal.specs.Journals.{SpellsJournal}
-use Rattle.version_journal.specs.Openings.{IsSynced}
+use Rattle.version_journal.specs.Synced.{IsSynced}
 use Rattle.file_commands.specs.Answer.{Answer, Serving}
 use Rattle.file_commands.specs.Ending.{Outside}
 use Rattle.file_commands.specs.declared.status.Status.{Status}
@@ -35,7 +35,8 @@ use Rattle.auth_cli.specs.Hosting.{AreKept, DiskFails, EndsHosting, EndsUnhosted
 use Rattle.auth_cli.specs.NetFaults.{NetFaults}
 use Rattle.auth_cli.specs.OnlineRuns.{NetSeen}
 use Rattle.auth_cli.specs.PreparedHosts.{IsPreparedHost}
-use Rattle.auth_cli.specs.PreparedServers.{IsPrepared, TellNumbers, numbers_served}
+use Rattle.auth_cli.specs.PreparedServers.{IsPrepared}
+use Rattle.auth_cli.specs.ToldNumbers.{TellNumbers, numbers_served}
 use Rattle.auth_cli.specs.ServeSteps.{KeeperFails, KeepsSoFar, KeptAtStop, ServesNone, ended_course}
 use Rattle.auth_cli.specs.Serving.{HasGone}
 use Rattle.auth_cli.specs.declared.hosting.HostWords.{HostWords}

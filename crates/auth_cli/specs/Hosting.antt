@@ -13,7 +13,7 @@ use Rattle.printed_lines.specs.Lines.{listening_line}
 use Rattle.session_meaning.specs.Begun.{IsBegun}
 use Rattle.session_meaning.specs.Calls.{RoleCall}
 use Rattle.session_meaning.specs.Server.{Server, version_at}
-use Rattle.session_turns.specs.Keepers.{IsFront}
+use Rattle.session_meaning.specs.Beginnings.{IsFront}
 use Rattle.version_journal.specs.Gates.{AtLast, LeavesOnly, Passed}
 use Rattle.version_journal.specs.Journals.{SpellsJournal}
 use Rattle.file_commands.specs.Answer.{Answer, Serving, serving_of, with_program_file, with_serving_numbers}
@@ -24,7 +24,7 @@ use Rattle.journal_commands.specs.DisksSeen.{DiskSeen, FromChosen, WritesNothing
 use Rattle.journal_commands.specs.JournalAnswers.{with_journal}
 use Rattle.auth_cli.specs.Courses.{AreLinesTold, Course, WithoutMemory}
 use Rattle.auth_cli.specs.OnlineRuns.{NetSeen}
-use Rattle.auth_cli.specs.PreparedServers.{TellNumbers, numbers_served}
+use Rattle.auth_cli.specs.ToldNumbers.{TellNumbers, numbers_served}
 use Rattle.auth_cli.specs.Serving.{HasGone, course_lines}
 
 -- JOURNALS

@@ -28,3 +28,4 @@ pub mod NetRows
 pub mod AskRows
 pub mod DrawRows
 pub mod PreparedRows
+pub mod ToldNumbers

@@ -1,5 +1,5 @@
 -- What the code holds of what is asked: the client before its link is made.
-use Rattle.std.specs.Prelude.{◌≡◌, ℕ, List, Option, map}
+use Rattle.std.specs.Prelude.{map}
 use Rattle.std.specs.List.{All}
 use Rattle.code_gen.specs.Programs.{program_in}
 use Rattle.core_terms.specs.Programs.{meaning}
@@ -9,9 +9,7 @@ use Rattle.session_meaning.specs.Client.{new_client}
 use Rattle.ask_core.specs.Sessions.{StandsFor}
 use Rattle.ask_script.specs.ScriptAnswers.{step_meant}
 use Rattle.ask_script.specs.Scripts.{Fits}
-use Rattle.printed_lines.specs.declared.refusal.Argument.TheVariants as named
-use Rattle.file_commands.specs.Answer.{Answer, Asking, with_number}
-use Rattle.file_commands.specs.Arguments.{most_port, positive_within}
+use Rattle.file_commands.specs.Answer.{Asking}
 use Rattle.file_commands.specs.ReadPrograms.{named_of}
 use Rattle.auth_cli.specs.declared.asking.AskInputs.{AskInputs}
 use Rattle.auth_cli.specs.declared.asking.PreparedClient.{PreparedClient}
@@ -23,10 +21,6 @@ asked_with p inputs = record { program = named_of p; state = inputs.state.items;
 abbrev pub asked_by : PreparedClient → Asking
 asked_by client =
     record { program = named_of (program_in client.core.code); state = client.state.items; port = client.port; steps = map step_meant client.steps.items }
-
--- The word tells this port: with it it is gone on, whatever the files hold.
-abbrev pub TellsPort : (word : List ℕ) → (port : ℕ) → Type 0
-TellsPort word port = (go : ℕ → Option Answer) → with_number named.Port (positive_within most_port word) go ≡ go port
 
 -- each step fits the program
 abbrev pub FitProgram : Program → AskInputs → Type 0

@@ -3,7 +3,7 @@ use Rattle.std.specs.Prelude.{◌≡◌, ◌<◌, ◌^◌, ℕ, List, ◌∷◌,
 use Rattle.session_meaning.specs.Begun.{IsBegun}
 use Rattle.version_journal.specs.AtGates.{IsAt}
 use Rattle.version_journal.specs.Gates.{AtLast}
-use Rattle.version_journal.specs.Openings.{IsSynced}
+use Rattle.version_journal.specs.Synced.{IsSynced}
 use Rattle.images.specs.Images.{Root, image_of}
 use Rattle.core_terms.specs.Values.{Value}
 use Rattle.session_turns.specs.Rows.{AreAlike}

@@ -13,14 +13,15 @@ use Rattle.mode_vm.specs.Meanings.{program_of}
 use Rattle.printed_lines.specs.Lines.{listening_line}
 use Rattle.serve_core.specs.Serving.{Serves}
 use Rattle.serve_core.specs.declared.server.ServeCore.{ServeCore}
-use Rattle.serve_links.specs.Histories.{HasServed}
+use Rattle.serve_links.specs.HistoriesInCode.{HasServed}
 use Rattle.session_meaning.specs.Client.{new_client}
 use Rattle.session_meaning.specs.Server.{begun_server}
 use Rattle.file_commands.specs.Answer.{Answer, Serving, first_shared, serving_of}
 use Rattle.file_commands.specs.ReadPrograms.{digested_of}
 use Rattle.file_commands.specs.StoredStates.{IsStoredState}
-use Rattle.auth_cli.specs.PreparedClients.{FitProgram, IsReady, TellsPort}
-use Rattle.auth_cli.specs.PreparedServers.{BeginsWith, HoldsProgram, IsPrepared, TellNumbers, numbers_of}
+use Rattle.auth_cli.specs.PreparedClients.{FitProgram, IsReady}
+use Rattle.auth_cli.specs.ToldNumbers.{TellsPort, TellNumbers}
+use Rattle.auth_cli.specs.PreparedServers.{BeginsWith, HoldsProgram, IsPrepared, numbers_of}
 use Rattle.auth_cli.specs.declared.asking.AskInputs.{AskInputs}
 use Rattle.auth_cli.specs.declared.asking.PreparedClient.{PreparedClient}
 use Rattle.auth_cli.specs.declared.serving.Beginning.{Beginning}

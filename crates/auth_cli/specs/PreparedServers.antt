@@ -9,7 +9,7 @@ use Rattle.lam_outside.specs.Told.{Contents}
 use Rattle.printed_lines.specs.Lines.{listening_line}
 use Rattle.serve_core.specs.Serving.{Serves}
 use Rattle.serve_core.specs.declared.server.ServeCore.{ServeCore}
-use Rattle.serve_links.specs.Histories.{HasServed}
+use Rattle.serve_links.specs.HistoriesInCode.{HasServed}
 use Rattle.session_meaning.specs.Server.{begun_server}
 use Rattle.file_commands.specs.Answer.{Answer, Serving, ServingNumbers, first_shared, serving_of, with_image_file, with_serving_numbers}
 use Rattle.file_commands.specs.FueledRoles.{DigestedProgram}
@@ -22,16 +22,8 @@ use Rattle.auth_cli.specs.declared.serving.PreparedServer.{PreparedServer}
 abbrev pub numbers_of : Numbers → ServingNumbers
 numbers_of numbers = record { port = numbers.port; links = numbers.connections; slice = numbers.slice }
 
--- the numbers of a serving, and those that the server holds
-abbrev pub numbers_served : Serving → ServingNumbers
-numbers_served s = record { port = s.port; links = s.links; slice = s.slice }
-
 abbrev pub numbers_held : PreparedServer → ServingNumbers
 numbers_held server = record { port = server.port; links = server.connections; slice = server.core.slice }
-
--- The words tell these numbers: with them it is gone on, whatever the files hold.
-abbrev pub TellNumbers : (port links slice : List ℕ) → ServingNumbers → Type 0
-TellNumbers port links slice numbers = (go : ServingNumbers → Option Answer) → with_serving_numbers port links slice go ≡ go numbers
 
 -- Goes on with what is served of a program: the numbers from left to right, and then the image are judged.
 abbrev pub with_beginning : DigestedProgram → (image port links slice : List ℕ) → Contents → (Serving → Option Answer) → Option Answer

@@ -10,7 +10,7 @@ use Rattle.serve_core.specs.Serving.{Serves}
 use Rattle.serve_core.specs.declared.server.ServeCore.{ServeCore}
 use Rattle.printed_lines.specs.Lines.{listening_line}
 use Rattle.serve_links.specs.Connections.{AnyKept}
-use Rattle.serve_links.specs.ServedLinks.{KeeperCause, KeepsBehind}
+use Rattle.serve_links.specs.ServedLinksInCode.{KeeperCause, KeepsBehind}
 use Rattle.session_meaning.specs.Calls.{RoleCall}
 use Rattle.session_turns.specs.Keepers.{HasStayed}
 use Rattle.session_meaning.specs.Server.{Server}

@@ -3,7 +3,7 @@ use Rattle.std.specs.Prelude.{ℕ, List}
 use Rattle.lam_outside.specs.Links.{Linked}
 use Rattle.serve_links.specs.Connections.{AnyKept}
 use Rattle.session_meaning.specs.Server.{Server}
-use Rattle.session_meaning.specs.ServerLaws.{IsHistory}
+use Rattle.session_meaning.specs.ServedHistories.{IsHistory}
 use Rattle.file_commands.specs.Answer.{Serving}
 use Rattle.auth_cli.specs.Courses.{Course}
 use Rattle.auth_cli.specs.Serving.{MakesLinks}

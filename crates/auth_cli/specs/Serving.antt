@@ -23,7 +23,7 @@ use Rattle.file_commands.specs.Ending.{Outside, EndsAs}
 use Rattle.auth_cli.specs.Courses.{AreMade, Course, HasFaults, IsListening, NotListening, NotWritten, Served, WithoutMemory, WritesFront, course_status, fault_lines, greeting_of, listened_behind}
 use Rattle.auth_cli.specs.NetFaults.{NetFaults}
 use Rattle.auth_cli.specs.OnlineRuns.{CountsBy, NetSeen}
-use Rattle.auth_cli.specs.PreparedServers.{TellNumbers, numbers_served}
+use Rattle.auth_cli.specs.ToldNumbers.{TellNumbers, numbers_served}
 use Rattle.file_commands.specs.declared.status.Status.{Status}
 use Rattle.file_commands.specs.declared.status.Status.TheVariants.{Done, InputRefused, ReadFault, WriteFault, NoMemory}
 

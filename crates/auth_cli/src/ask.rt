@@ -1,7 +1,7 @@
 // The command `ask`.
 ghost use Rattle.std.specs.Prelude.{◌≡◌, ◌⊎◌, IfOk, length, unwrap_or};
 ghost use Rattle.std.specs.Option.{ForSome};
-ghost use Rattle.lam_outside.specs.Moments.{AtEachRead};
+ghost use Rattle.lam_outside.specs.LinkSteps.{AtEachRead};
 ghost use Rattle.wire_form.specs.MovedBytes.{Moves};
 ghost use Rattle.command_words.specs.Commands.{texts};
 ghost use Rattle.command_words.specs.declared.command.Command.TheVariants.{Ask};

@@ -9,7 +9,8 @@ ghost use Rattle.ask_script.specs.Scripts.{Fits};
 ghost use Rattle.file_commands.specs.Answer.{unasked_answer, with_asked, with_asking, with_script, with_script_file};
 ghost use Rattle.auth_cli.specs.Asking.{IsOfScript, IsOfSources};
 ghost use Rattle.file_commands.specs.Halting.{GoesOn, HaltCause, InHand};
-ghost use Rattle.auth_cli.specs.PreparedClients.{FitProgram, IsReady, TellsPort, asked_by, asked_with};
+ghost use Rattle.auth_cli.specs.PreparedClients.{FitProgram, IsReady, asked_by, asked_with};
+ghost use Rattle.auth_cli.specs.ToldNumbers.{TellsPort};
 ghost use Rattle.file_commands.specs.ReadPrograms.{named_of};
 ghost use Rattle.file_commands.specs.Reaching.{FaultsAt, FaultsAtReached};
 

@@ -8,7 +8,7 @@ ghost use Rattle.file_commands.specs.Reaching.{FaultsAtReached};
 ghost use Rattle.file_commands.specs.RolesCalled.{IsCalled, role_of};
 ghost use Rattle.file_commands.specs.declared.roles.Callee.TheVariants.{OfState};
 ghost use Rattle.auth_cli.specs.Drawing.{IsOfSources};
-ghost use Rattle.auth_cli.specs.PreparedClients.{TellsPort};
+ghost use Rattle.auth_cli.specs.ToldNumbers.{TellsPort};
 ghost use Rattle.auth_cli.specs.PreparedDrawings.{IsReady, TellsRole, drawing_of, drawn_with, texts_of};
 
 use crate::serving::MOST_PORT;

@@ -11,7 +11,8 @@ ghost use Rattle.journal_commands.specs.OpenedJournals.{IsOpenedBy};
 ghost use Rattle.journal_commands.specs.Stops.{WorkCause};
 ghost use Rattle.auth_cli.specs.HostReading.{ReadsHost};
 ghost use Rattle.auth_cli.specs.PreparedHosts.{IsPreparedHost};
-ghost use Rattle.auth_cli.specs.PreparedServers.{TellNumbers, numbers_held, numbers_of};
+ghost use Rattle.auth_cli.specs.PreparedServers.{numbers_held, numbers_of};
+ghost use Rattle.auth_cli.specs.ToldNumbers.{TellNumbers};
 
 use crate::serving::{Numbers, PreparedServer, read_numbers};
 use code_gen::Code;

@@ -3,7 +3,7 @@ ghost use Rattle.std.specs.Prelude.{◌≡◌, ◌⊎◌, IfOk, length};
 ghost use Rattle.std.specs.List.{concat};
 ghost use Rattle.command_words.specs.Commands.{texts};
 ghost use Rattle.command_words.specs.declared.command.Command.TheVariants.{Serve};
-ghost use Rattle.serve_links.specs.Histories.{HasSameCode};
+ghost use Rattle.serve_links.specs.HistoriesInCode.{HasSameCode};
 ghost use Rattle.file_commands.specs.Answer.{Serving, answer_with};
 ghost use Rattle.file_commands.specs.Ending.{outside};
 ghost use Rattle.auth_cli.specs.NetFaults.{net_faults};

@@ -8,7 +8,8 @@ ghost use Rattle.file_commands.specs.Answer.{Serving, first_shared, serving_of, 
 ghost use Rattle.file_commands.specs.Halting.{GoesOn, GoesOnFor, HaltCause, InHand};
 ghost use Rattle.file_commands.specs.Reaching.{FaultsAtReached};
 ghost use Rattle.file_commands.specs.ReadPrograms.{digested_of};
-ghost use Rattle.auth_cli.specs.PreparedServers.{TellNumbers, BeginsWith, IsPrepared, numbers_held, numbers_of, with_beginning};
+ghost use Rattle.auth_cli.specs.PreparedServers.{BeginsWith, IsPrepared, numbers_held, numbers_of, with_beginning};
+ghost use Rattle.auth_cli.specs.ToldNumbers.{TellNumbers};
 ghost use Rattle.file_commands.specs.StoredStates.{IsStoredState};
 
 use code_gen::Code;

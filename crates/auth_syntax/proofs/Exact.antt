@@ -8,7 +8,8 @@ use Rattle.lexemes.specs.declared.token.Keyword.TheVariants.{«Type» as TypeWor
 use Rattle.lexemes.specs.Tokens.{Token, KeywordToken, Tokens, Next, End, Faulty, count}
 use Rattle.auth_syntax.specs.Syntax.{ConstructorDeclaration, DeclarationSyntax, TypeDeclaration, StateDeclaration, FunctionDeclaration, Program}
 use Rattle.auth_syntax.specs.ProgramTokens.{read_format, text_tokens}
-use Rattle.auth_syntax.specs.Grammar.{Written, declaration_tokens, declarations_tokens, format_tokens, program_tokens, nesting_limit, AreDeclarations, AreWritten, IsProgramText}
+use Rattle.auth_syntax.specs.Grammar.{Written, declaration_tokens, declarations_tokens, format_tokens, program_tokens, AreDeclarations, AreWritten, IsProgramText}
+use Rattle.auth_syntax.specs.Nesting.{nesting_limit}
 use Rattle.lexemes.specs.Readings.{Reading, Found, FaultAt, then_read, refused, read_mark}
 use Rattle.auth_syntax.specs.Parsing.{read_bar, read_others, read_lower, read_constructor_declaration, read_constructors, read_type_declaration, read_declaration, read_declarations, Tree, end_of, as_program, read_program, parsed}
 use Rattle.lexemes.specs.declared.token.Mark.TheVariants.{EqualsSign}

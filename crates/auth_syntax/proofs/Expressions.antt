@@ -8,7 +8,8 @@ use Rattle.lexemes.specs.declared.token.Keyword.TheVariants.{Let as LetWord, In 
 use Rattle.lexemes.specs.declared.token.Mark.TheVariants.{LeftParenthesis, RightParenthesis, Comma, EqualsSign, Bar, Arrow}
 use Rattle.lexemes.specs.Tokens.{Token, KeywordToken, MarkToken, LowerToken, UpperToken, IntToken, TextToken, Tokens, Next, End, Faulty, count}
 use Rattle.auth_syntax.specs.Syntax.{NameSyntax, UnaryOperation, FstOperation, SndOperation, AuthOperation, UnauthOperation, LenOperation, NotOperation, ArrayOperation, FillOperation, GetOperation, PutOperation, ExpSyntax, UnitSyntax, BoolSyntax, IntSyntax, TextSyntax, LocalSyntax, PairSyntax, UnarySyntax, BinarySyntax, CallSyntax, ConstructorSyntax, OperateSyntax, LetSyntax, IfSyntax, MatchSyntax, ExpsSyntax, NoExp, AndExp, ArmsSyntax, NoArmSyntax, AndArmSyntax}
-use Rattle.auth_syntax.specs.Grammar.{Written, standing, mark, word, lower, upper, unary_word, bool_word, length_tokens, names_tokens, in_parentheses, array_word, brackets, others_of, expression_tokens, expressions_tokens, arms_tokens, expression_levels, expressions_levels, arms_levels, has_length, row_length, HasParts, HaveParts, ArmsHaveParts, IsExpression, IsSome}
+use Rattle.auth_syntax.specs.Grammar.{Written, standing, mark, word, lower, upper, unary_word, bool_word, length_tokens, names_tokens, in_parentheses, array_word, brackets, expression_tokens, expressions_tokens, arms_tokens, expression_levels, expressions_levels, arms_levels, has_length, row_length, HasParts, HaveParts, ArmsHaveParts, IsExpression, IsSome}
+use Rattle.auth_syntax.specs.Nesting.{others_of}
 use Rattle.lexemes.specs.Readings.{Reading, Found}
 use Rattle.auth_syntax.specs.Parsing.{unary_of, binary_of, in_a_row, read_lower, read_pair, read_call, read_length, read_operate, read_unit_or_pair, read_arm_separator, read_other_arms, read_arms, operation_from, word_from, expression_from, read_expression}
 use Rattle.auth_syntax.proofs.Beginnings.{Begin, First, begin-none, begin-next, begin-first, begin-parted, begin-as, none-begin}

@@ -9,7 +9,8 @@ use Rattle.lexemes.specs.declared.token.Keyword.TheVariants.{Let as LetWord, In 
 use Rattle.lexemes.specs.declared.token.Mark.TheVariants.{LeftParenthesis, RightParenthesis, Comma, EqualsSign}
 use Rattle.lexemes.specs.Tokens.{Token, KeywordToken, MarkToken, LowerToken, UpperToken, IntToken, TextToken, Tokens, Next, End, Faulty}
 use Rattle.auth_syntax.specs.Syntax.{UnaryOperation, ArrayOperation, FillOperation, GetOperation, PutOperation, ExpSyntax, UnitSyntax, BoolSyntax, IntSyntax, TextSyntax, LocalSyntax, UnarySyntax, BinarySyntax, ConstructorSyntax, OperateSyntax, LetSyntax, IfSyntax, MatchSyntax, ExpsSyntax, NoExp, AndExp, NoArmSyntax, AndArmSyntax}
-use Rattle.auth_syntax.specs.Grammar.{Written, standing, mark, word, lower, array_word, brackets, others_of, expression_tokens, expressions_tokens, arms_tokens, expressions_levels, has_length, row_length, HaveParts, IsExpression}
+use Rattle.auth_syntax.specs.Grammar.{Written, standing, mark, word, lower, array_word, brackets, expression_tokens, expressions_tokens, arms_tokens, expressions_levels, has_length, row_length, HaveParts, IsExpression}
+use Rattle.auth_syntax.specs.Nesting.{others_of}
 use Rattle.lexemes.specs.Readings.{Reading, Found, FaultAt}
 use Rattle.auth_syntax.specs.Parsing.{unary_of, binary_of, operation_from, read_expression, begins_expression, operation_begins, word_begins}
 use Rattle.auth_syntax.specs.FirstFaults.{Placed, placed, IsInt}

@@ -9,7 +9,8 @@ use Rattle.lexemes.specs.declared.token.Keyword.TheVariants.{«Type» as TypeWor
 use Rattle.lexemes.specs.Tokens.{Token, KeywordToken, Tokens, Next, End, Faulty, count}
 use Rattle.auth_syntax.specs.Syntax.{DeclarationSyntax, Program}
 use Rattle.auth_syntax.specs.ProgramTokens.{read_format, text_tokens}
-use Rattle.auth_syntax.specs.Grammar.{Written, IsKept, declaration_tokens, declarations_tokens, format_tokens, program_tokens, nesting_limit, IsDeclaration, AreDeclarations, AreWritten}
+use Rattle.auth_syntax.specs.Grammar.{Written, IsKept, declaration_tokens, declarations_tokens, format_tokens, program_tokens, IsDeclaration, AreDeclarations, AreWritten}
+use Rattle.auth_syntax.specs.Nesting.{nesting_limit}
 use Rattle.lexemes.specs.Readings.{Reading, Found, FaultAt, then_read}
 use Rattle.auth_syntax.specs.Parsing.{read_declarations, as_program, read_program, Tree, FirstFault, parsed}
 use Rattle.auth_syntax.specs.FirstFaults.{Placed, placed, joined, AreFirst, CanGoOn, IsRefused}

@@ -7,7 +7,8 @@ use Rattle.lexemes.specs.declared.token.Mark.TheVariants.{Bar, Arrow}
 use Rattle.lexemes.specs.declared.token.Keyword.TheVariants.{End as EndWord}
 use Rattle.lexemes.specs.Tokens.{KeywordToken, MarkToken, Tokens, Next, End, Faulty, count}
 use Rattle.auth_syntax.specs.Syntax.{DeclarationSyntax}
-use Rattle.auth_syntax.specs.Grammar.{Written, nesting_limit, names_tokens, parameter_tokens, constructor_tokens, declaration_tokens}
+use Rattle.auth_syntax.specs.Grammar.{Written, names_tokens, parameter_tokens, constructor_tokens, declaration_tokens}
+use Rattle.auth_syntax.specs.Nesting.{nesting_limit}
 use Rattle.lexemes.specs.Readings.{Reading, Found, FaultAt, read_separator}
 use Rattle.auth_syntax.specs.Parsing.{read_lower, read_bar, read_arm_separator, read_type, read_expression, read_parameter, read_constructor_declaration, read_declaration}
 use Rattle.auth_syntax.specs.Trees.{ArmSyntax}

@@ -11,7 +11,7 @@ use Rattle.lexemes.specs.Tokens.{MarkToken, Tokens, Next, count}
 use Rattle.lexemes.specs.Readings.{SyntaxFault, Reading, Found, then_read, read_mark, read_keyword}
 use Rattle.lexemes.specs.Remaining.{Reads, Takes, read_if_mark}
 use Rattle.auth_syntax.specs.Syntax.{NameSyntax, UnaryOperation, ArrayOperation, ExpSyntax, UnitSyntax, PairSyntax, UnarySyntax, BinarySyntax, OperateSyntax, LetSyntax, IfSyntax, MatchSyntax}
-use Rattle.auth_syntax.specs.Grammar.{others_of}
+use Rattle.auth_syntax.specs.Nesting.{others_of}
 use Rattle.auth_syntax.specs.Parsing.{in_a_row, read_brackets, read_operate, read_so_many, read_lower, read_upper, read_list, read_optional_list, read_call, read_constructor, read_expression, operation_from, read_unit_or_pair, read_let, read_if, read_match, read_arms}
 use Rattle.auth_syntax.specs.Arms.{read_arm}
 use Rattle.auth_syntax.specs.Trees.{ArmSyntax, arms_of, array_of, boxed_of, expression_of, expressions_of, name_of, unary_of}

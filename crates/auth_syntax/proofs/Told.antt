@@ -9,7 +9,8 @@ use Rattle.lexemes.specs.declared.fault.SyntaxKind.TheVariants.{Lexical, Expecte
 use Rattle.lexemes.specs.Tokens.{Token, Tokens, Next, End, Faulty}
 use Rattle.auth_syntax.specs.Syntax.{DeclarationSyntax}
 use Rattle.auth_syntax.specs.ProgramTokens.{text_tokens}
-use Rattle.auth_syntax.specs.Grammar.{Written, program_tokens, nesting_limit, AreDeclarations, AreWritten}
+use Rattle.auth_syntax.specs.Grammar.{Written, program_tokens, AreDeclarations, AreWritten}
+use Rattle.auth_syntax.specs.Nesting.{nesting_limit}
 use Rattle.auth_syntax.specs.Parsing.{Parsed, Tree, FirstFault, parsed}
 use Rattle.auth_syntax.specs.FirstFaults.{Placed, placed, joined, AreFirst, CanGoOn, IsRefused, IsFirstFault}
 use Rattle.auth_syntax.specs.Laws.{FirstFaultIsTold}

@@ -9,7 +9,8 @@ use Rattle.lexemes.specs.Readings.{Found}
 use Rattle.lexemes.specs.Tokens.{Tokens, End, tokens, count}
 use Rattle.auth_syntax.specs.Syntax.{TypeSyntax, ExpSyntax, ParameterSyntax, ConstructorDeclaration, DeclarationSyntax, TypeDeclaration, StateDeclaration, FunctionDeclaration, Program}
 use Rattle.auth_syntax.specs.ProgramTokens.{format_word, read_format, text_tokens, told_format}
-use Rattle.auth_syntax.specs.Grammar.{type_levels, expression_levels, nesting_limit, declarations_tokens, format_tokens, program_tokens, AreTypes, AreParameters, AreConstructors, IsDeclaration, AreDeclarations, IsProgramText}
+use Rattle.auth_syntax.specs.Grammar.{type_levels, expression_levels, declarations_tokens, format_tokens, program_tokens, AreTypes, AreParameters, AreConstructors, IsDeclaration, AreDeclarations, IsProgramText}
+use Rattle.auth_syntax.specs.Nesting.{nesting_limit}
 use Rattle.auth_syntax.specs.Parsing.{read_declarations, read_program, parsed, as_program, end_of, Tree}
 use Rattle.auth_syntax.specs.TreeLimits.{types_in_declaration, types_in_program, bodies_in_declaration, bodies_in_program, expression_limit, IsWithinLimits}
 use Rattle.auth_syntax.proofs.Exact.{parsed_is_written}

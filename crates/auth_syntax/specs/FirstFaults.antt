@@ -8,7 +8,8 @@ use Rattle.lexemes.specs.declared.fault.SyntaxKind.TheVariants.{Lexical, Expecte
 use Rattle.lexemes.specs.declared.fault.LexicalFault.TheVariants.{NumberRange}
 use Rattle.lexemes.specs.Tokens.{Token, IntToken, Tokens, Next, End, Faulty}
 use Rattle.auth_syntax.specs.Syntax.{DeclarationSyntax}
-use Rattle.auth_syntax.specs.Grammar.{Written, IsKept, program_tokens, nesting_limit, AreDeclarations}
+use Rattle.auth_syntax.specs.Grammar.{Written, IsKept, program_tokens, AreDeclarations}
+use Rattle.auth_syntax.specs.Nesting.{nesting_limit}
 
 -- a token at its place
 pub record Placed : Type 0 where

@@ -11,6 +11,7 @@ use Rattle.lexemes.specs.declared.token.Mark.{Mark}
 use Rattle.lexemes.specs.declared.token.Mark.TheVariants.{LeftParenthesis, RightParenthesis, Comma, Semicolon, Colon, EqualsSign, Bar, Arrow, LeftBracket, RightBracket}
 use Rattle.auth_syntax.specs.ProgramTokens.{format_word, text_tokens}
 use Rattle.auth_syntax.specs.Syntax.{NameSyntax, TypeSyntax, UnitTypeSyntax, BoolTypeSyntax, IntTypeSyntax, TextTypeSyntax, NamedTypeSyntax, AuthTypeSyntax, PairTypeSyntax, VecTypeSyntax, UnaryOperation, FstOperation, SndOperation, AuthOperation, UnauthOperation, LenOperation, NotOperation, ArrayOperation, FillOperation, GetOperation, PutOperation, ExpSyntax, UnitSyntax, BoolSyntax, IntSyntax, TextSyntax, LocalSyntax, PairSyntax, UnarySyntax, BinarySyntax, CallSyntax, ConstructorSyntax, OperateSyntax, LetSyntax, IfSyntax, MatchSyntax, ExpsSyntax, NoExp, AndExp, ArmsSyntax, NoArmSyntax, AndArmSyntax, ParameterSyntax, KindSyntax, InnerSyntax, InitSyntax, QuerySyntax, UpdateSyntax, FunctionSyntax, ConstructorDeclaration, DeclarationSyntax, TypeDeclaration, StateDeclaration, FunctionDeclaration, Program}
+use Rattle.auth_syntax.specs.Nesting.{nesting_limit, others_of}
 
 -- a token of a tree, with its place where the tree keeps it
 pub record Written : Type 0 where
@@ -87,11 +88,6 @@ array_word PutOperation = VecPutWord
 abbrev pub brackets : ArrayOperation → List Written
 brackets (FillOperation n) = length_tokens n
 brackets operation = []
-
-abbrev pub others_of : ArrayOperation → ℕ
-others_of (FillOperation n) = 0
-others_of GetOperation = 1
-others_of PutOperation = 2
 
 abbrev mutual
   -- expression  =  "(" ")"  |  "(" expression "," expression ")"  |  "true"  |  "false"  |  int  |  text
@@ -236,10 +232,6 @@ abbrev mutual
   pub arms_levels : ArmsSyntax → ℕ
   arms_levels NoArmSyntax = 0
   arms_levels (AndArmSyntax constructor fields body rest) = max (expression_levels body) (arms_levels rest)
-
--- how many types, or expressions, may stand inside one another
-abbrev pub nesting_limit : ℕ
-nesting_limit = 100
 
 -- each array of a type has a length from 1 to 64
 abbrev pub HasLengths : TypeSyntax → Type 0

@@ -3,7 +3,8 @@ use Rattle.std.specs.Prelude.{◌≡◌, ◌↔◌, ℕ, List}
 use Rattle.lexemes.specs.declared.place.Place.{Place}
 use Rattle.auth_syntax.specs.ProgramTokens.{text_tokens}
 use Rattle.auth_syntax.specs.Syntax.{Program}
-use Rattle.auth_syntax.specs.Grammar.{IsProgramText, nesting_limit}
+use Rattle.auth_syntax.specs.Grammar.{IsProgramText}
+use Rattle.auth_syntax.specs.Nesting.{nesting_limit}
 use Rattle.auth_syntax.specs.Parsing.{parsed, Tree, FirstFault}
 use Rattle.auth_syntax.specs.FirstFaults.{CanGoOn, IsFirstFault}
 use Rattle.lexemes.specs.declared.fault.SyntaxKind.{SyntaxKind}

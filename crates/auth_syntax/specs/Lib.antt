@@ -10,3 +10,4 @@ pub mod Parts
 pub mod Outcomes
 pub mod Laws
 pub mod FirstFaults
+pub mod Nesting

@@ -15,7 +15,7 @@ use Rattle.lexemes.specs.declared.fault.LexicalFault.TheVariants.{NumberRange}
 use Rattle.lexemes.specs.Readings.{Reading, Found, FaultAt, then_read, refused, read_mark, read_keyword, read_separator}
 use Rattle.auth_syntax.specs.Syntax.{NameSyntax, TypeSyntax, UnitTypeSyntax, BoolTypeSyntax, IntTypeSyntax, TextTypeSyntax, NamedTypeSyntax, AuthTypeSyntax, PairTypeSyntax, VecTypeSyntax, UnaryOperation, FstOperation, SndOperation, AuthOperation, UnauthOperation, LenOperation, NotOperation, ArrayOperation, FillOperation, GetOperation, PutOperation, ExpSyntax, UnitSyntax, BoolSyntax, IntSyntax, TextSyntax, LocalSyntax, PairSyntax, UnarySyntax, BinarySyntax, CallSyntax, ConstructorSyntax, OperateSyntax, LetSyntax, IfSyntax, MatchSyntax, ExpsSyntax, NoExp, AndExp, ArmsSyntax, NoArmSyntax, AndArmSyntax, ParameterSyntax, KindSyntax, InnerSyntax, InitSyntax, QuerySyntax, UpdateSyntax, FunctionSyntax, ConstructorDeclaration, DeclarationSyntax, TypeDeclaration, StateDeclaration, FunctionDeclaration, Program}
 use Rattle.auth_syntax.specs.ProgramTokens.{read_format, text_tokens}
-use Rattle.auth_syntax.specs.Grammar.{nesting_limit, others_of}
+use Rattle.auth_syntax.specs.Nesting.{nesting_limit, others_of}
 
 -- nothing more may be nested: a token that would begin something nested is told apart from one that begins nothing
 abbrev pub too_nested : {A : Type 0} → (Token → Bool) → Tokens → Reading A

@@ -21,7 +21,7 @@ use Rattle.declared_types.specs.Scopes.{signature_meant}
 use Rattle.declared_types.specs.declared.scope.Head.{Head}
 use Rattle.auth_types.specs.declared.bodies.elaborator.Elaborator.{Elaborator}
 use Rattle.declared_types.specs.OverTypes.{FindsOver, Grows, Shows}
-use Rattle.declared_types.specs.RoleRules.{kind_meant}
+use Rattle.declared_types.specs.RoleKinds.{kind_meant}
 use Rattle.declared_types.specs.WrittenTypes.{type_meant}
 use Rattle.declared_types.specs.declared.fault.TypeKind.{TypeKind}
 use Rattle.declared_types.specs.Findings.{TypeFault}

@@ -9,7 +9,7 @@ use Rattle.core_terms.specs.Terms.{Expression, Expressions, AndArm, AndE, AuthE,
 use Rattle.core_terms.specs.Terms as tree
 use Rattle.lexemes.specs.declared.place.Place.{Place}
 use Rattle.auth_syntax.specs.Syntax.{NameSyntax, ExpSyntax, UnitSyntax, BoolSyntax, IntSyntax, TextSyntax, LocalSyntax, PairSyntax, UnarySyntax, BinarySyntax, CallSyntax, ConstructorSyntax, OperateSyntax, LetSyntax, IfSyntax, MatchSyntax, ExpsSyntax, NoExp, AndExp, ArmsSyntax, NoArmSyntax, AndArmSyntax, UnaryOperation, FstOperation, SndOperation, AuthOperation, UnauthOperation, LenOperation, NotOperation, ArrayOperation, place_of}
-use Rattle.auth_syntax.specs.Grammar.{others_of}
+use Rattle.auth_syntax.specs.Nesting.{others_of}
 use Rattle.declared_types.specs.Checking.{Checking, Sound, then_checked, unless_fault}
 use Rattle.auth_types.specs.Bodies.{Local, Typed, TypedArms, arm_names, binary_expression, bound_names, called, constructed, count_of, elaborated, elaborated_arms, elaborated_each, first_of, last_named, local_at, matched, may_begin, most_locals, opened, operand_type, operated, operated_on, result_type, same_names, second_of, typed, unary, wanted, wanted_arm}
 use Rattle.declared_types.specs.Signatures.{Numbered, Scope, Signature, constructor_named, function_named}

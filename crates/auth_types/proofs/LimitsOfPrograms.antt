@@ -9,8 +9,10 @@ use Rattle.core_terms.specs.Terms.{Expression, Function}
 use Rattle.core_terms.specs.TypeNames as code
 use Rattle.core_terms.specs.TypeNames.{AreNamed, all_constructor_names}
 use Rattle.core_terms.specs.declared.term.NamedType.{NamedType}
-use Rattle.core_terms.specs.ProgramLimits.{IsBodyWithin, IsFlatType, IsFunctionWithin, expressions_in_all, levels_of_type, locals_in, most_parameters}
-use Rattle.auth_syntax.specs.Grammar.{expression_levels, nesting_limit, type_levels}
+use Rattle.core_terms.specs.ProgramLimits.{most_parameters}
+use Rattle.core_terms.specs.ProgramSizes.{IsBodyWithin, IsFlatType, IsFunctionWithin, expressions_in_all, levels_of_type, locals_in}
+use Rattle.auth_syntax.specs.Grammar.{expression_levels, type_levels}
+use Rattle.auth_syntax.specs.Nesting.{nesting_limit}
 use Rattle.auth_syntax.specs.Syntax.{AuthTypeSyntax, BoolTypeSyntax, ConstructorDeclaration, DeclarationSyntax, ExpSyntax, FunctionDeclaration, FunctionSyntax, IntTypeSyntax, NamedTypeSyntax, PairTypeSyntax, VecTypeSyntax, ParameterSyntax, StateDeclaration, TextTypeSyntax, TypeDeclaration, TypeSyntax, UnitTypeSyntax, place_of}
 use Rattle.auth_syntax.specs.TreeLimits as written
 use Rattle.auth_syntax.specs.TreeLimits.{bodies_in_program, names_in_declaration, names_in_program, names_in_type, types_in_declaration, types_in_program}

@@ -5,7 +5,7 @@ use Rattle.std.specs.List.{list_all}
 use Rattle.std.proofs.lemmas.List.{length-map}
 use Rattle.std.proofs.lemmas.List.Elements.{All-cons, All-head, All-nil, All-tail}
 use Rattle.core_terms.specs.TypeNames.{AreNamed, all_constructor_names}
-use Rattle.core_terms.specs.ProgramLimits as programs
+use Rattle.core_terms.specs.ProgramSizes as programs
 use Rattle.core_terms.specs.Types.{Ty}
 use Rattle.core_terms.specs.TypeTables.{type_at, types_of_forms}
 use Rattle.core_terms.specs.Typing.{is_shaped, is_typed}

@@ -11,7 +11,7 @@ use Rattle.auth_syntax.specs.Syntax.{ExpSyntax, ConstructorDeclaration, Declarat
 use Rattle.declared_types.specs.Checking.{Checking, Sound, FaultAt, then_checked}
 use Rattle.declared_types.specs.Declarations.{first_pass}
 use Rattle.declared_types.specs.WrittenTypes.{functions_in, second_pass, table_of, type_meant}
-use Rattle.declared_types.specs.RoleRules.{kind_meant}
+use Rattle.declared_types.specs.RoleKinds.{kind_meant}
 use Rattle.auth_types.specs.Bodies.{Local, checked_function, checked_functions, elaborated, parameter_locals, wanted}
 use Rattle.declared_types.specs.Signatures.{Scope}
 use Rattle.auth_types.specs.CheckedPrograms.{FirstFault, IsProgram, all_passes, as_checked, checked, fourth_pass, program_format}

@@ -5,11 +5,12 @@ use Rattle.std.proofs.lemmas.List.{append-nil, length-map, map-append}
 use Rattle.core_terms.specs.declared.term.BinaryOperator.TheVariants.{Arith, Compare, TextCompare, Cat}
 use Rattle.core_terms.specs.declared.term.BinaryOperator.{BinaryOperator}
 use Rattle.core_terms.specs.Types.{Ty, UnitTy, BoolTy, TextTy, PairTy, NamedTy, AuthTy, Table, OnFields, fields_at, same_type}
-use Rattle.core_terms.specs.Terms.{Expression, AndE, AuthE, CallE, ConE, OperateE, Expressions, Function, HasType, HaveArms, HaveTypes, OnFunction}
+use Rattle.core_terms.specs.Terms.{Expression, AndE, AuthE, CallE, ConE, OperateE, Expressions, Function}
+use Rattle.core_terms.specs.TypingRules.{HasType, HaveArms, HaveTypes, OnFunction}
 use Rattle.core_terms.specs.Terms as tree
 use Rattle.core_terms.proofs.SameTypes.{same_sound}
 use Rattle.auth_syntax.specs.Syntax.{NameSyntax, ExpSyntax, UnitSyntax, BoolSyntax, IntSyntax, TextSyntax, LocalSyntax, PairSyntax, UnarySyntax, BinarySyntax, CallSyntax, ConstructorSyntax, OperateSyntax, LetSyntax, IfSyntax, MatchSyntax, ExpsSyntax, NoExp, AndExp, ArmsSyntax, NoArmSyntax, AndArmSyntax, UnaryOperation, FstOperation, SndOperation, AuthOperation, UnauthOperation, LenOperation, NotOperation, ArrayOperation, place_of}
-use Rattle.auth_syntax.specs.Grammar.{others_of}
+use Rattle.auth_syntax.specs.Nesting.{others_of}
 use Rattle.lexemes.specs.declared.place.Place.{Place}
 use Rattle.declared_types.specs.Checking.{Checking, Sound, FaultAt, is_among, then_checked, unless_fault}
 use Rattle.auth_types.specs.Bodies.{Local, Typed, TypedArms, arm_names, binary, binary_expression, bound_names, called, constructed, count_of, elaborated, elaborated_arms, elaborated_each, first_of, last_named, local_at, matched, may_begin, most_locals, opened, operand_type, operated as on_arrays, operated_on, or_else, pair, result_type, same_names, second_of, typed, unary, wanted, wanted_arm}

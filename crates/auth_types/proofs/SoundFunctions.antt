@@ -4,16 +4,19 @@ use Rattle.std.specs.Prelude.{All}
 use Rattle.std.proofs.lemmas.List.Elements.{All-cons, All-head, All-nil, All-tail}
 use Rattle.core_terms.specs.Types.{Ty, UnitTy, BoolTy, IntTy, TextTy, PairTy, NamedTy, AuthTy, VecTy, same_type}
 use Rattle.core_terms.specs.declared.format.Format.{Format}
-use Rattle.core_terms.specs.Terms.{Expression, Function, HasType}
+use Rattle.core_terms.specs.Terms.{Expression, Function}
+use Rattle.core_terms.specs.TypingRules.{HasType}
 use Rattle.core_terms.specs.Terms as tree
 use Rattle.core_terms.specs.Roles.{has_auth}
-use Rattle.core_terms.specs.Typing.{all_shaped, all_typed, has_type, shape_test}
+use Rattle.core_terms.specs.Typing.{all_shaped, all_typed, has_type}
+use Rattle.core_terms.specs.RoleShapes.{shape_test}
 use Rattle.core_terms.proofs.TypingComplete.{both, type_complete}
 use Rattle.core_terms.proofs.SameTypes as test
 use Rattle.auth_syntax.specs.Syntax.{FunctionSyntax, InitSyntax, InnerSyntax, KindSyntax, ParameterSyntax, QuerySyntax, TypeSyntax, UpdateSyntax, place_of, place_of_type}
 use Rattle.declared_types.specs.Checking.{Checking, Sound}
 use Rattle.declared_types.specs.WrittenTypes.{type_meant}
-use Rattle.declared_types.specs.RoleRules.{checked_role, checked_roles, is_new_state, kind_meant, plain_argument}
+use Rattle.declared_types.specs.RoleRules.{checked_role, checked_roles, is_new_state, plain_argument}
+use Rattle.declared_types.specs.RoleKinds.{kind_meant}
 use Rattle.auth_types.specs.Bodies.{checked_function, checked_functions, elaborated, parameter_locals, wanted}
 use Rattle.declared_types.specs.Signatures.{Scope}
 use Rattle.declared_types.specs.DeclaredPrograms.{signature_of}

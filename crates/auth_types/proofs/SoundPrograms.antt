@@ -9,7 +9,7 @@ use Rattle.core_terms.specs.Types.{Table}
 use Rattle.core_terms.specs.declared.format.Format.{Format}
 use Rattle.core_terms.specs.Terms.{Function}
 use Rattle.core_terms.specs.Terms as tree
-use Rattle.core_terms.specs.ProgramLimits.{IsBodyWithin, IsFlatType, IsShort, expressions_in_all}
+use Rattle.core_terms.specs.ProgramSizes.{IsBodyWithin, IsFlatType, IsShort, expressions_in_all}
 use Rattle.core_terms.specs.Typing.{all_shaped, all_typed, is_typed_as}
 use Rattle.auth_syntax.specs.Syntax.{ConstructorDeclaration, DeclarationSyntax, FunctionDeclaration, FunctionSyntax, ParameterSyntax, Program, StateDeclaration, TypeDeclaration}
 use Rattle.declared_types.specs.Checking.{Checking, FaultAt, Sound, is_among, then_checked}

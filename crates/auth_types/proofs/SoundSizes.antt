@@ -7,10 +7,11 @@ use Rattle.core_terms.specs.declared.term.BinaryOperator.TheVariants.{Arith, Com
 use Rattle.core_terms.specs.declared.term.BinaryOperator.{BinaryOperator}
 use Rattle.core_terms.specs.Types.{Ty, BoolTy, TextTy, PairTy, NamedTy, AuthTy, fields_at, same_type}
 use Rattle.core_terms.specs.Terms.{Expression, AuthE, Expressions, Arms}
-use Rattle.core_terms.specs.ProgramLimits.{expressions_in, expressions_in_arms, expressions_in_row, levels_of, levels_of_arms, levels_of_row, locals_in, locals_in_arms, locals_in_row}
+use Rattle.core_terms.specs.ProgramSizes.{expressions_in, expressions_in_arms, expressions_in_row, levels_of, levels_of_arms, levels_of_row, locals_in, locals_in_arms, locals_in_row}
 use Rattle.lexemes.specs.declared.place.Place.{Place}
 use Rattle.auth_syntax.specs.Syntax.{NameSyntax, ExpSyntax, UnitSyntax, BoolSyntax, IntSyntax, TextSyntax, LocalSyntax, PairSyntax, UnarySyntax, BinarySyntax, CallSyntax, ConstructorSyntax, OperateSyntax, LetSyntax, IfSyntax, MatchSyntax, ExpsSyntax, NoExp, AndExp, ArmsSyntax, NoArmSyntax, AndArmSyntax, UnaryOperation, FstOperation, SndOperation, AuthOperation, UnauthOperation, LenOperation, NotOperation, ArrayOperation, place_of}
-use Rattle.auth_syntax.specs.Grammar.{arms_levels, expression_levels, expressions_levels, others_of}
+use Rattle.auth_syntax.specs.Grammar.{arms_levels, expression_levels, expressions_levels}
+use Rattle.auth_syntax.specs.Nesting.{others_of}
 use Rattle.auth_syntax.specs.TreeLimits as written
 use Rattle.declared_types.specs.Checking.{Checking, Sound, FaultAt, is_among, unless_fault}
 use Rattle.auth_types.specs.Bodies.{Local, Typed, TypedArms, arm_names, binary, binary_expression, bound_names, called, constructed, count_of, elaborated, elaborated_arms, elaborated_each, first_of, last_named, local_at, matched, may_begin, most_locals, opened, operand_type, operated as on_arrays, operated_on, pair, same_names, second_of, taken_by, typed, unary, wanted, wanted_arm}

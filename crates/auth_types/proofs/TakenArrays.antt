@@ -1,12 +1,13 @@
 -- An operation on arrays is taken exactly where the rule of operations takes its first operand, and what the rule says of it.
 use Rattle.std.proofs.Common.{◌≡◌, ℕ, Bool, true, false, List, [], ◌∷◌, ◌⊎◌, inl, inr, length, refl, sym, ap, subst}
 use Rattle.core_terms.specs.ProgramFormats.{arrays_of}
-use Rattle.core_terms.specs.Terms.{Operation, VecFill, VecGet, VecPut, is_operation, operand_types}
+use Rattle.core_terms.specs.Terms.{Operation, VecFill, VecGet, VecPut, operand_types}
+use Rattle.core_terms.specs.TypingRules.{is_operation}
 use Rattle.core_terms.specs.Types.{Ty, UnitTy, BoolTy, IntTy, TextTy, PairTy, NamedTy, AuthTy, VecTy}
 use Rattle.core_terms.specs.declared.format.Format.{Format}
 use Rattle.core_terms.proofs.SameTypes.{second_of}
 use Rattle.lexemes.specs.declared.place.Place.{Place}
-use Rattle.auth_syntax.specs.Grammar.{others_of}
+use Rattle.auth_syntax.specs.Nesting.{others_of}
 use Rattle.auth_syntax.specs.Syntax.{ArrayOperation, FillOperation, GetOperation, PutOperation}
 use Rattle.declared_types.specs.Checking.{Checking, FaultAt, unless_fault}
 use Rattle.declared_types.specs.WrittenTypes.{may_have}

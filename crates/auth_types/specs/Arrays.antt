@@ -8,7 +8,7 @@ use Rattle.core_terms.specs.ProgramTrees.{operation_of, types_at}
 use Rattle.core_terms.specs.Types.{Ty}
 use Rattle.core_terms.specs.declared.fault.Fault.TheVariants.{At, NoMemory}
 use Rattle.lexemes.specs.declared.place.Place.{Place}
-use Rattle.auth_syntax.specs.Grammar.{others_of}
+use Rattle.auth_syntax.specs.Nesting.{others_of}
 use Rattle.auth_syntax.specs.Parsing.{in_a_row}
 use Rattle.auth_syntax.specs.Syntax.{ArrayOperation, OperateSyntax}
 use Rattle.auth_syntax.specs.Trees.{expression_of}

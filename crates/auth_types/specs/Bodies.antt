@@ -9,12 +9,12 @@ use Rattle.core_terms.specs.Terms.{Expression, UnitE, BoolE, IntE, TextE, LocalE
 use Rattle.core_terms.specs.Terms as tree
 pub use Rattle.core_terms.specs.ProgramLimits.{most_locals}
 use Rattle.lexemes.specs.declared.place.Place.{Place}
-use Rattle.auth_syntax.specs.Grammar.{others_of}
+use Rattle.auth_syntax.specs.Nesting.{others_of}
 use Rattle.auth_syntax.specs.Syntax.{NameSyntax, ExpSyntax, UnitSyntax, BoolSyntax, IntSyntax, TextSyntax, LocalSyntax, PairSyntax, UnarySyntax, BinarySyntax, CallSyntax, ConstructorSyntax, OperateSyntax, LetSyntax, IfSyntax, MatchSyntax, ExpsSyntax, NoExp, AndExp, ArmsSyntax, NoArmSyntax, AndArmSyntax, UnaryOperation, FstOperation, SndOperation, AuthOperation, UnauthOperation, LenOperation, NotOperation, ArrayOperation, FillOperation, GetOperation, PutOperation, FunctionSyntax, ParameterSyntax, place_of}
 use Rattle.declared_types.specs.Checking.{Checking, Sound, FaultAt, then_checked, unless_fault, is_among}
 use Rattle.declared_types.specs.WrittenTypes.{may_have, type_meant}
 use Rattle.declared_types.specs.Signatures.{Numbered, Scope, Signature, constructor_named, function_named}
-use Rattle.declared_types.specs.RoleRules.{kind_meant}
+use Rattle.declared_types.specs.RoleKinds.{kind_meant}
 use Rattle.declared_types.specs.declared.fault.TypeKind.TheVariants.{Twice, UnknownName, WrongType, NotPair, NotAuth, NotVec, NotSum, ArmsWrong, WrongCount, Limit}
 use Rattle.declared_types.specs.declared.fault.Limited.TheVariants.{Locals}
 

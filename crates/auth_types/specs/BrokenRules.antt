@@ -5,7 +5,7 @@ use Rattle.core_terms.specs.declared.term.BinaryOperator.{BinaryOperator}
 use Rattle.core_terms.specs.Types.{Ty, BoolTy, TextTy, PairTy, NamedTy, AuthTy}
 use Rattle.core_terms.specs.Terms.{Expression, Operation}
 use Rattle.lexemes.specs.declared.place.Place.{Place}
-use Rattle.auth_syntax.specs.Grammar.{others_of}
+use Rattle.auth_syntax.specs.Nesting.{others_of}
 use Rattle.auth_syntax.specs.Syntax.{NameSyntax, ExpSyntax, LocalSyntax, PairSyntax, UnarySyntax, BinarySyntax, CallSyntax, ConstructorSyntax, OperateSyntax, LetSyntax, IfSyntax, MatchSyntax, ExpsSyntax, AndExp, ArmsSyntax, AndArmSyntax, UnaryOperation, FstOperation, SndOperation, UnauthOperation, LenOperation, NotOperation, ArrayOperation, place_of}
 use Rattle.auth_types.specs.Bodies.{Local, arm_names, count_of, may_begin, most_locals}
 use Rattle.declared_types.specs.Signatures.{Scope, Signature}

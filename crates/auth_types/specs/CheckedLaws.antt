@@ -1,9 +1,10 @@
 -- The laws of the passes: what a reader may hold a program that passes them to.
 use Rattle.std.specs.Prelude.{◌≡◌, ◌≤◌, ◌<◌, ℕ, true, List, length, map, Some, slice_get, All, IsUtf8}
 use Rattle.core_terms.specs.Types.{Ty, PairTy, NamedTy, AuthTy, VecTy}
-use Rattle.core_terms.specs.Terms.{Function, HasType}
+use Rattle.core_terms.specs.Terms.{Function}
+use Rattle.core_terms.specs.TypingRules.{HasType}
 use Rattle.core_terms.specs.Terms as tree
-use Rattle.core_terms.specs.ProgramLimits as programs
+use Rattle.core_terms.specs.ProgramSizes as programs
 use Rattle.core_terms.specs.Typing.{is_typed, is_shaped}
 use Rattle.core_terms.specs.Values.{int_fits}
 use Rattle.auth_syntax.specs.Syntax.{ExpSyntax, IntSyntax, TextSyntax, PairSyntax, UnarySyntax, BinarySyntax, CallSyntax, ConstructorSyntax, OperateSyntax, LetSyntax, IfSyntax, MatchSyntax, ExpsSyntax, NoExp, AndExp, ArmsSyntax, NoArmSyntax, AndArmSyntax, Program}

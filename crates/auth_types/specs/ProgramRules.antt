@@ -9,7 +9,7 @@ use Rattle.auth_types.specs.CheckedPrograms.{program_format}
 use Rattle.auth_types.specs.Bodies.{parameter_locals}
 use Rattle.declared_types.specs.Signatures.{Scope}
 use Rattle.declared_types.specs.DeclaredPrograms.{format_of, names_of, scope_of, state_of, table_of_program}
-use Rattle.declared_types.specs.RoleRules.{kind_meant}
+use Rattle.declared_types.specs.RoleKinds.{kind_meant}
 use Rattle.declared_types.specs.WrittenTypes.{functions_in, type_meant}
 use Rattle.auth_types.specs.InOrder.{EachMeets, OneBreaks}
 use Rattle.auth_types.specs.TypingRules.{Elaborates}

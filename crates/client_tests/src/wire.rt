@@ -1,6 +1,6 @@
 // Requests and replies as bytes on a link in memory.
 ghost use Rattle.std.specs.Prelude.{IsTrue};
-ghost use Rattle.session_meaning.specs.Messages.{IsRequest};
+ghost use Rattle.session_meaning.specs.MessageFields.{IsRequest};
 ghost use Rattle.wire_form.specs.MessageViews.{request_meant};
 
 use lam_outside::{MemLink, Plan};

@@ -7,7 +7,7 @@ use Rattle.std.proofs.lemmas.List.{drop_all, drop_at, length-drop, length-take-l
 use Rattle.std.proofs.lemmas.Option.{slice_get_within}
 use borrow.Rule.Slice.PartMut.{put_mid, post_of}
 use Rattle.core_terms.specs.Types.{Ty}
-use Rattle.core_terms.specs.Accepted.{shape}
+use Rattle.core_terms.specs.CodeShapes.{shape}
 use Rattle.core_terms.specs.Bodies.{Body, FunctionCode}
 use Rattle.core_terms.specs.Instructions as meant
 use Rattle.core_terms.specs.InstructionViews.{instructions_of}

@@ -5,7 +5,7 @@ use Rattle.std.specs.Option.{option_and_then}
 use Rattle.std.specs.declared.alloc.AllocError.{AllocError}
 use Rattle.std.proofs.lemmas.List.{reverse-append, length-reverse}
 use Rattle.core_terms.specs.Types.{Ty, UnitTy, BoolTy, IntTy, TextTy, PairTy, NamedTy, AuthTy, VecTy, same_type}
-use Rattle.core_terms.specs.Accepted.{Shape, shape}
+use Rattle.core_terms.specs.CodeShapes.{Shape, shape}
 use Rattle.core_terms.specs.Bodies.{Body}
 use Rattle.core_terms.specs.InstructionViews.{instruction_of}
 use Rattle.core_terms.specs.Instructions as meant

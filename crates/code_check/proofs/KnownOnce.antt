@@ -7,7 +7,7 @@ use Rattle.core_terms.specs.TypeTables.{HasOneNumber}
 use Rattle.core_terms.proofs.SameTypes.{first_of, second_of}
 use Rattle.core_terms.proofs.TypingComplete.{same_self}
 use Rattle.core_terms.specs.declared.types.TyId.{TyId}
-use Rattle.core_terms.specs.Accepted.{Shape, shape}
+use Rattle.core_terms.specs.CodeShapes.{Shape, shape}
 use Rattle.core_terms.specs.Kinds as kinds
 use Rattle.core_terms.specs.Kinds.{same_types, same_shape}
 use Rattle.core_terms.proofs.KindsSound.{shape_sound}

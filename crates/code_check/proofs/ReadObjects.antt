@@ -1,6 +1,6 @@
 -- Lemmas of what is read of bytes, and of its judgement.
 use Rattle.std.proofs.Common.{◌≡◌, ◌<◌, ◌≤◌, ℕ, suc, List, [], ◌∷◌, length, get_or, Result, Ok, Err, Option, None, option_map, sym, ap, ◌∙◌, subst, arith}
-use Rattle.core_terms.specs.ProgramLimits.{IsWithinLimits}
+use Rattle.core_terms.specs.ProgramSizes.{IsWithinLimits}
 use Rattle.core_terms.specs.Spelling.{AreBytes}
 use Rattle.core_terms.specs.Kinds.{kind_fault}
 use Rattle.core_terms.specs.Programs.{meaning}
@@ -8,7 +8,7 @@ use Rattle.core_terms.specs.Terms as terms
 use Rattle.core_terms.specs.TypeNames.{all_constructor_names}
 use Rattle.core_terms.specs.declared.program.Program.{Program}
 use Rattle.core_terms.specs.declared.term.NamedType.{NamedType}
-use Rattle.code_gen.specs.Code.{generated}
+use Rattle.core_terms.specs.GeneratedCode.{generated}
 use Rattle.object_meaning.specs.Accepting as meant
 use Rattle.object_meaning.specs.Accepting.{accepting, read_judged, shape_fault, shapes_judged, kinds_judged, Accepts, FirstFault}
 use Rattle.object_meaning.specs.ObjectBodies.{body_in, program_in}

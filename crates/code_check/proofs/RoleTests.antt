@@ -4,7 +4,7 @@ use Rattle.std.proofs.lemmas.Bool.{false≢true}
 use Rattle.core_terms.specs.Types.{Ty, same_type}
 use Rattle.core_terms.specs.ProgramTrees.{function_of}
 use Rattle.core_terms.specs.Terms.{Program}
-use Rattle.core_terms.specs.Typing.{shape_test}
+use Rattle.core_terms.specs.RoleShapes.{shape_test}
 use Rattle.core_terms.specs.declared.term.Function.{Function}
 use Rattle.core_terms.proofs.SameTypes.{same_sound}
 use Rattle.core_terms.proofs.TypingComplete.{same_self}

@@ -5,7 +5,7 @@ use Rattle.std.specs.declared.alloc.AllocError.{AllocError}
 use Rattle.std.proofs.lemmas.List.{reverse-append, length-reverse, get_or-reverse, take-append-drop, length-drop, drop_at}
 use Rattle.std.proofs.lemmas.Option.{slice_get-get_or, slice_get_past, get_or_from_slice_get}
 use Rattle.core_terms.specs.Types.{Ty, UnitTy, PairTy, same_type}
-use Rattle.core_terms.specs.Accepted.{Shape, shape}
+use Rattle.core_terms.specs.CodeShapes.{Shape, shape}
 use Rattle.core_terms.specs.Bodies.{Body}
 use Rattle.core_terms.specs.InstructionViews.{instruction_of}
 use Rattle.core_terms.specs.Instructions as meant

@@ -9,7 +9,7 @@ use Rattle.core_terms.specs.ProgramTrees.{types_at}
 use Rattle.core_terms.specs.TypeTables.{type_at}
 use Rattle.core_terms.specs.declared.program.FunctionId.{FunctionId}
 use Rattle.core_terms.specs.declared.term.Function.{Function}
-use Rattle.core_terms.specs.Accepted.{Shape}
+use Rattle.core_terms.specs.CodeShapes.{Shape}
 use Rattle.core_terms.specs.Kinds.{Way}
 use Rattle.core_terms.specs.declared.instruction.Instruction.{Instruction}
 use Rattle.core_terms.specs.declared.instruction.Instruction.TheVariants.{Switch, Branch, Jump, Return, VecFill, VecGet, VecPut}

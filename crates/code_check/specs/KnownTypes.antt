@@ -1,7 +1,7 @@
 -- What is known of instructions, by numbers of lists.
 use Rattle.std.specs.Prelude.{Bool, true, false, List, [], ◌∷◌, reverse, Option, Some, None}
 use Rattle.core_terms.specs.Types.{Ty}
-use Rattle.core_terms.specs.Accepted.{Shape}
+use Rattle.core_terms.specs.CodeShapes.{Shape}
 use Rattle.core_terms.specs.Kinds as kinds
 use Rattle.code_check.specs.declared.known.Frame.{Frame}
 use Rattle.code_check.specs.declared.known.Known.{Known}

@@ -10,7 +10,7 @@ use Rattle.core_terms.specs.Types.{Ty}
 use Rattle.core_terms.specs.TypeTables.{type_at}
 use Rattle.core_terms.specs.declared.instruction.Instruction.{Instruction}
 use Rattle.core_terms.specs.declared.term.Function.{Function}
-use Rattle.code_gen.specs.Code.{generated}
+use Rattle.core_terms.specs.GeneratedCode.{generated}
 use Rattle.code_check.specs.declared.kinds.Spot.{Spot}
 use Rattle.code_check.specs.declared.parts.Parts.{Parts}
 

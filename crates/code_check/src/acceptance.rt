@@ -1,6 +1,6 @@
 // Which bytes are an object that is accepted.
 ghost use Rattle.std.specs.Prelude.{◌≡◌, ◌≤◌, true, length, IfOk, IfErr};
-ghost use Rattle.core_terms.specs.ProgramLimits.{IsWithinLimits};
+ghost use Rattle.core_terms.specs.ProgramSizes.{IsWithinLimits};
 ghost use Rattle.core_terms.specs.Programs.{meaning};
 ghost use Rattle.core_terms.specs.Typing.{is_shaped, is_typed};
 ghost use Rattle.core_terms.specs.Kinds as kinds;

@@ -2,12 +2,12 @@
 ghost use Rattle.std.specs.Prelude.{◌≡◌, ◌<◌, true, List, [], length, option_map, IfOk};
 ghost use Rattle.std.specs.List.{list_all};
 ghost use Rattle.core_terms.specs.Kinds as kinds;
-ghost use Rattle.core_terms.specs.Accepted.{shape};
+ghost use Rattle.core_terms.specs.CodeShapes.{shape};
 ghost use Rattle.core_terms.specs.InstructionViews.{instructions_of};
 ghost use Rattle.core_terms.specs.ProgramTrees.{are_below, has_types_below, types_at};
 ghost use Rattle.core_terms.specs.Programs.{types_in};
 ghost use Rattle.core_terms.specs.TypeTables.{type_at};
-ghost use Rattle.code_gen.specs.Code.{generated};
+ghost use Rattle.core_terms.specs.GeneratedCode.{generated};
 ghost use Rattle.code_check.specs.CodeTypes.{is_listable};
 ghost use Rattle.code_check.specs.KnownTypes.{AreKnown, IsFrame};
 ghost use Rattle.code_check.specs.ObjectParts.{body_of_parts, function_with, parts_program, spot_of};

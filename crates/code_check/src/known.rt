@@ -1,7 +1,7 @@
 // What is known of an instruction before it is gone over: the types of its locals and of its operands.
 ghost use Rattle.std.specs.Prelude.{List, [], ◌∷◌};
 ghost use Rattle.core_terms.specs.Programs.{types_in};
-ghost use Rattle.core_terms.specs.Accepted.{Shape};
+ghost use Rattle.core_terms.specs.CodeShapes.{Shape};
 ghost use Rattle.core_terms.specs.Kinds as kinds;
 ghost use Rattle.code_check.specs.KnownTypes.{IsFrame, IsKnown, AreKnown, IsReached};
 

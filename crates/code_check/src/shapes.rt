@@ -6,7 +6,7 @@ ghost use Rattle.core_terms.specs.ProgramTrees.{are_below, has_types_below, kind
 ghost use Rattle.core_terms.specs.Terms as terms;
 ghost use Rattle.core_terms.specs.TypeTables.{type_at};
 ghost use Rattle.core_terms.specs.Types.{Ty, same_type};
-ghost use Rattle.core_terms.specs.Typing.{shape_test};
+ghost use Rattle.core_terms.specs.RoleShapes.{shape_test};
 ghost use Rattle.object_meaning.specs.Accepting as accepting;
 ghost use Rattle.code_check.specs.ObjectParts.{parts_program};
 ghost use Rattle.code_check.specs.RoleShapes.{gives_state};

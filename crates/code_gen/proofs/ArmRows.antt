@@ -5,7 +5,7 @@ use Rattle.core_terms.specs.Types.{Ty, Table}
 use Rattle.core_terms.specs.Terms.{Expression}
 use Rattle.core_terms.specs.ProgramTrees.{arms_in_a_row}
 use Rattle.core_terms.specs.Instructions.{Instruction}
-use Rattle.code_gen.specs.Code.{code_of, arm_codes, unbind_code}
+use Rattle.core_terms.specs.GeneratedCode.{code_of, arm_codes, unbind_code}
 use Rattle.core_terms.specs.Bodies.{field_count}
 use Rattle.code_gen.proofs.Rows.{taken, mapped_more}
 

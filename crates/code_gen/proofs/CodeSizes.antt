@@ -4,8 +4,9 @@ use Rattle.core_terms.specs.Types.{Ty, Table}
 use Rattle.core_terms.specs.Terms.{Expression, UnitE, BoolE, IntE, TextE, LocalE, PairE, FstE, SndE, NotE, LenE, AuthE, UnauthE, ConE, ArithE, CompareE, TextCompareE, CatE, LetE, IfE, MatchE, CallE, OperateE, Expressions, NoE, AndE, Arms, NoArm, AndArm, Function, Program, coded}
 use Rattle.core_terms.specs.Programs.{meaning}
 use Rattle.core_terms.specs.Instructions.{Instruction, Fst, Snd, Not, Len, Auth, Unauth, Make, Call, Pair, ArithOp, CompareOp, TextCompareOp, Cat, Bind, Unbind, Branch, Jump, Switch, Return}
-use Rattle.code_gen.specs.Code.{behind, laid, places, match_code, if_code, unbind_code, operation_code, code_of, code_all, arm_codes, function_code, codes_as, generated}
-use Rattle.core_terms.specs.ProgramLimits.{expressions_in, expressions_in_row, expressions_in_arms, expressions_in_all, most_expressions, most_functions, instructions_in_all, most_instructions, IsShort, IsWithinLimits}
+use Rattle.core_terms.specs.GeneratedCode.{behind, laid, places, match_code, if_code, unbind_code, operation_code, code_of, code_all, arm_codes, function_code, codes_as, generated}
+use Rattle.core_terms.specs.ProgramLimits.{most_expressions, most_functions, most_instructions}
+use Rattle.core_terms.specs.ProgramSizes.{expressions_in, expressions_in_row, expressions_in_arms, expressions_in_all, instructions_in_all, IsShort, IsWithinLimits}
 use Rattle.code_gen.specs.CodeSizes.{code_size, CodeIsShort, CodeHasALimit}
 
 one : (c : List Instruction) (i : Instruction) (n : ℕ) → length c + 2 ≤ 4 * n → length (c ++ i ∷ []) + 2 ≤ 4 * suc n

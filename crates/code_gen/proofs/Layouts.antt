@@ -1,7 +1,7 @@
 -- Arms that are laid one behind the other: where they begin and end.
 use Rattle.std.proofs.Common.{◌≡◌, ℕ, suc, ◌+◌, ◌-◌, ◌≤◌, List, [], ◌∷◌, ◌++◌, length, map, take, slice_index_or, ◌<◌, refl, sym, ap, ap₂, ◌∙◌, arith, length-append, append_assoc}
 use Rattle.core_terms.specs.Instructions.{Instruction, Jump}
-use Rattle.code_gen.specs.Code.{behind, jump_code, laid, places}
+use Rattle.core_terms.specs.GeneratedCode.{behind, jump_code, laid, places}
 use Rattle.code_gen.proofs.Rows.{taken}
 
 -- where the next arm would begin

@@ -5,7 +5,7 @@ use Rattle.core_terms.specs.Terms.{UnitE, BoolE, IntE, LocalE, PairE, FstE, NotE
 use Rattle.core_terms.specs.declared.term.Arith.TheVariants.{Sub}
 use Rattle.core_terms.specs.declared.term.Compare.TheVariants.{Le}
 use Rattle.core_terms.specs.Instructions.{PushUnit, PushBool, PushInt, Load, Bind, Unbind, Pair, Fst, Make, Switch, Branch, Jump, Call, Return, Unauth, ArithOp, CompareOp, Not}
-use Rattle.code_gen.specs.Code.{code_of, function_code}
+use Rattle.core_terms.specs.GeneratedCode.{code_of, function_code}
 
 -- one named type, whose constructors have no field, one and two
 abbrev pub three : Table

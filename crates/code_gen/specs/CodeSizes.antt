@@ -1,10 +1,11 @@
 -- How long code is.
 use Rattle.std.specs.Prelude.{ℕ, ◌+◌, ◌*◌, ◌≤◌, List, [], ◌∷◌, length}
 use Rattle.core_terms.specs.Terms.{Program}
-use Rattle.core_terms.specs.ProgramLimits.{expressions_in_all, most_instructions}
+use Rattle.core_terms.specs.ProgramLimits.{most_instructions}
+use Rattle.core_terms.specs.ProgramSizes.{expressions_in_all}
 use Rattle.core_terms.specs.Programs.{meaning}
 use Rattle.core_terms.specs.Bodies.{FunctionCode}
-use Rattle.code_gen.specs.Code.{written_body, generated}
+use Rattle.core_terms.specs.GeneratedCode.{written_body, generated}
 use Rattle.code_gen.specs.Programs.{program_in}
 use Rattle.code_gen.specs.declared.code.Code.{Code}
 

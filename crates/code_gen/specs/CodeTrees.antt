@@ -11,7 +11,7 @@ use Rattle.core_terms.specs.declared.term.Term.{Term}
 use Rattle.core_terms.specs.declared.types.NamedId.{NamedId}
 use Rattle.core_terms.specs.Instructions as meant
 use Rattle.core_terms.specs.Bodies.{FunctionCode}
-use Rattle.code_gen.specs.Code.{arm_codes, code_of, written_body}
+use Rattle.core_terms.specs.GeneratedCode.{arm_codes, code_of, written_body}
 use Rattle.core_terms.specs.declared.instruction.Instruction.{Instruction}
 
 -- the instructions that are generated of each function of a written program, by number

@@ -3,7 +3,7 @@ ghost use Rattle.std.specs.Prelude.{◌≡◌, ◌≤◌, ◌+◌, ◌-◌, ◌+
 ghost use Rattle.core_terms.specs.Programs.{types_of};
 ghost use Rattle.code_gen.specs.CodeTrees.{Adds, listed};
 ghost use Rattle.core_terms.specs.InstructionViews.{instructions_of};
-ghost use Rattle.code_gen.specs.Code as meant;
+ghost use Rattle.core_terms.specs.GeneratedCode as meant;
 
 use crate::pieces::{append, put};
 use core_terms::{Instruction, NamedId, Program};

@@ -3,10 +3,10 @@ ghost use Rattle.std.specs.Prelude.{◌≡◌, ◌++◌, ◌∷◌, [], List, ma
 ghost use Rattle.core_terms.specs.Programs.{meaning, types_of};
 ghost use Rattle.core_terms.specs.ProgramTrees.{function_of, operation_of};
 ghost use Rattle.core_terms.specs.Types.{Ty};
-ghost use Rattle.code_gen.specs.Code.{operation_code};
+ghost use Rattle.core_terms.specs.GeneratedCode.{operation_code};
 ghost use Rattle.code_gen.specs.CodeTrees.{Adds, arms_code, codes_of, listed, single, term_code, terms_code};
 ghost use Rattle.core_terms.specs.InstructionViews.{instruction_of};
-ghost use Rattle.code_gen.specs.Code as meant;
+ghost use Rattle.core_terms.specs.GeneratedCode as meant;
 ghost use Rattle.core_terms.specs.Instructions as instruction;
 
 use crate::arms::select;

@@ -3,7 +3,7 @@ ghost use Rattle.std.specs.Prelude.{◌≡◌, ◌∷◌, [], OnOk};
 ghost use Rattle.core_terms.specs.Programs.{meaning};
 ghost use Rattle.core_terms.specs.Texts.{bytes_of};
 ghost use Rattle.code_gen.specs.CodeTrees.{Adds, listed, single};
-ghost use Rattle.code_gen.specs.Code as meant;
+ghost use Rattle.core_terms.specs.GeneratedCode as meant;
 ghost use Rattle.core_terms.specs.Instructions as instruction;
 
 use core_terms::{Instruction, NamedId, Program, Text};

@@ -6,14 +6,15 @@ use Rattle.core_terms.specs.Types.{Ty}
 use Rattle.core_terms.specs.Values.{Value, Values}
 use Rattle.core_terms.specs.Bodies.{Body, FunctionCode, code_at}
 use Rattle.core_terms.specs.Accepted.{IsAccepted}
-use Rattle.core_terms.specs.Terms.{Program, function_at, body_of, IsTyped, IsTypedAs}
+use Rattle.core_terms.specs.Terms.{Program, function_at, body_of}
+use Rattle.core_terms.specs.TypingRules.{IsTyped, IsTypedAs}
 use Rattle.ideal_meaning.specs.Run.{Mode}
 use Rattle.ideal_meaning.specs.Called.{call_as, call_from}
 use Rattle.ideal_meaning.specs.Execution.{Ran, call_code_from}
 use Rattle.ideal_meaning.specs.CodeTypes.{IsOf, AreOf, IsMode}
 use Rattle.ideal_meaning.proofs.Never.{never}
 use Rattle.ideal_meaning.proofs.Coded.{as_many, no_more, coded_found, not_stuck}
-use Rattle.code_gen.specs.Code.{codes_as, function_code, generated}
+use Rattle.core_terms.specs.GeneratedCode.{codes_as, function_code, generated}
 use Rattle.code_meaning.proofs.Follows.{code_found, written_right}
 use Rattle.code_meaning.proofs.Generated.{written_accepted}
 

@@ -1,10 +1,12 @@
 -- The code of a typed program is accepted.
 use Rattle.std.proofs.Common.{◌≡◌, ℕ, true, zero, suc, ◌+◌, List, [], ◌∷◌, ◌++◌, length, Some, unwrap_or, slice_get, refl, sym, ap, ◌∙◌, subst, arith, append_assoc, append-nil, length-append}
 use Rattle.core_terms.specs.Types.{Ty, BoolTy, IntTy, TextTy, PairTy, NamedTy, AuthTy, fields_at}
-use Rattle.core_terms.specs.Terms.{Expression, UnitE, BoolE, IntE, TextE, LocalE, PairE, FstE, SndE, NotE, LenE, AuthE, UnauthE, ConE, ArithE, CompareE, TextCompareE, CatE, LetE, IfE, MatchE, CallE, OperateE, Operation, VecFill, VecGet, VecPut, operand_types, result_type, is_operation, Expressions, NoE, AndE, Arms, NoArm, AndArm, Program, function_at, HasType, HaveTypes, HaveArms, IsWrittenWell}
+use Rattle.core_terms.specs.Terms.{Expression, UnitE, BoolE, IntE, TextE, LocalE, PairE, FstE, SndE, NotE, LenE, AuthE, UnauthE, ConE, ArithE, CompareE, TextCompareE, CatE, LetE, IfE, MatchE, CallE, OperateE, Operation, VecFill, VecGet, VecPut, operand_types, result_type, Expressions, NoE, AndE, Arms, NoArm, AndArm, Program, function_at}
+use Rattle.core_terms.specs.TypingRules.{is_operation, HasType, HaveTypes, HaveArms, IsWrittenWell}
 use Rattle.core_terms.specs.Instructions.{Instruction, PushUnit, PushBool, PushInt, PushText, Load, Bind, Unbind, Pair, Fst, Snd, Make, Switch, Branch, Jump, Call, Return, Auth, Unauth, ArithOp, CompareOp, TextCompareOp, Cat, Len, Not}
-use Rattle.code_gen.specs.Code.{unbind_code, laid, places, operation_code, code_of, code_all, arm_codes, written_body}
-use Rattle.core_terms.specs.Accepted.{Shape, shape, push_types, Fits, IsFine, IsAccepted}
+use Rattle.core_terms.specs.GeneratedCode.{unbind_code, laid, places, operation_code, code_of, code_all, arm_codes, written_body}
+use Rattle.core_terms.specs.Accepted.{push_types, Fits, IsFine, IsAccepted}
+use Rattle.core_terms.specs.CodeShapes.{Shape, shape}
 use Rattle.ideal_meaning.proofs.Parts.{on_fields, in_table}
 use Rattle.code_meaning.proofs.Follows.{on_function, function_there, typed_at}
 use Rattle.code_meaning.proofs.Follows.{code_found}

@@ -10,7 +10,7 @@ use Rattle.ideal_meaning.specs.Headline.{call_of}
 use Rattle.ideal_meaning.specs.Examples.{operands, arms_of, values, function, program, expression_program, bool_program, spin_program}
 use Rattle.core_terms.specs.Instructions.{Instruction, PushInt, Load, Jump, Return}
 use Rattle.core_terms.specs.Bodies.{Body}
-use Rattle.code_gen.specs.Code.{generated}
+use Rattle.core_terms.specs.GeneratedCode.{generated}
 use Rattle.code_gen.specs.CodeRows.{three}
 use Rattle.ideal_meaning.specs.Execution.{Coded, Ran, Stuck, call_code_from}
 

@@ -10,7 +10,7 @@ use Rattle.ideal_meaning.specs.Run.{Gives, Ends, Traps, IsOut, Overflow}
 use Rattle.ideal_meaning.specs.Ideal.{ideal}
 use Rattle.ideal_meaning.specs.Headline.{call_of}
 use Rattle.ideal_meaning.specs.Examples.{function, program, values, bool_program, spin_program}
-use Rattle.code_gen.specs.Code.{generated}
+use Rattle.core_terms.specs.GeneratedCode.{generated}
 
 -- a function without its body
 abbrev pub declared : Function → Function

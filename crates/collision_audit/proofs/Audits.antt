@@ -4,9 +4,11 @@ use Rattle.core_terms.specs.Formats.{Hash, IsHash, IsFormat}
 use Rattle.core_terms.specs.Programs.{meaning}
 use Rattle.core_terms.specs.Projection.{digest_at}
 use Rattle.core_terms.specs.ProgramTypes.{types_meaning}
-use Rattle.core_terms.specs.Roles.{IsRole, ReadsState, argument_type}
+use Rattle.core_terms.specs.Roles.{argument_type}
+use Rattle.core_terms.specs.RoleTypes.{IsRole, ReadsState}
 use Rattle.core_terms.specs.Spelling.{Spells}
-use Rattle.core_terms.specs.Terms.{Kind, Program, IsTyped, function_at}
+use Rattle.core_terms.specs.Terms.{Kind, Program, function_at}
+use Rattle.core_terms.specs.TypingRules.{IsTyped}
 use Rattle.core_terms.specs.Types.{Ty}
 use Rattle.core_terms.specs.Values.{Value, IsIdeal}
 use Rattle.core_terms.specs.declared.program.Program.{Program as Coded}
@@ -28,13 +30,15 @@ use Rattle.value_store.specs.declared.node.Ref.{Ref}
 use Rattle.prover_mode.specs.Seen.{AreSeen}
 use Rattle.prover_mode.specs.declared.opened.Opened.{Opened}
 use Rattle.mode_vm.specs.IdealRuns.{IsOutcome}
-use Rattle.mode_vm.specs.StateCalls.{IsCalledOn, SpellsOutcome, TakesState}
+use Rattle.mode_vm.specs.StateCalls.{IsCalledOn, TakesState}
+use Rattle.ideal_meaning.specs.SpelledOutcomes.{SpellsOutcome}
 use Rattle.mode_vm.proofs.StateCalls.{argument_fits, argument_ideal, argument_is, is_format, is_typed, state_deep, state_fits, state_ideal}
 use Rattle.collision_audit.specs.Audits.{Audit, audit_of, verdict_on_projections}
 use Rattle.collision_audit.specs.Splits.{offered_in, rest_behind, split_of}
 use Rattle.collision_audit.proofs.AuditHeadline.{agreement_is_true, collides, judges}
 use Rattle.collision_audit.proofs.FirstSplits.{no_split_is_found, split_is_found}
-use Rattle.collision_audit.specs.AuditAnswers.{AuditsTruly, TellsAudit, split_told}
+use Rattle.collision_audit.specs.AuditAnswers.{TellsAudit, split_told}
+use Rattle.collision_audit.specs.AuditsInCode.{AuditsTruly}
 use Rattle.collision_audit.specs.Comparing.{ComparesAll, TellsDifference}
 use Rattle.collision_audit.specs.PieceAudits.{audit_file, outcome_seen, run_audit}
 use Rattle.collision_audit.specs.declared.audited.AuditFault.{AuditFault}

@@ -4,9 +4,10 @@ use Rattle.std.proofs.lemmas.Slice.Eq.{bytes_eq-Decides}
 use Rattle.core_terms.specs.Types.{Ty}
 use Rattle.core_terms.specs.Formats.{Hash, IsHash, IsFormat}
 use Rattle.core_terms.specs.Projection.{digest_at, projection, projections, Fits, AllFit, read_at}
-use Rattle.core_terms.specs.Roles.{IsRole, ReadsState}
+use Rattle.core_terms.specs.RoleTypes.{IsRole, ReadsState}
 use Rattle.core_terms.specs.Spelling.{spelling}
-use Rattle.core_terms.specs.Terms.{Kind, Program, IsTyped, function_at}
+use Rattle.core_terms.specs.Terms.{Kind, Program, function_at}
+use Rattle.core_terms.specs.TypingRules.{IsTyped}
 use Rattle.core_terms.specs.Values.{Value, Values, AuthWithin, AuthWithinAll, IsIdeal, AreIdeal}
 use Rattle.ideal_meaning.specs.Agreement.{IsRefused, OffersOther, honest_so_far}
 use Rattle.ideal_meaning.specs.Checked.{Cause, Header, Rejected, Taking, Verdict, WrongPiece, before_all, cause_of, checked, judge, judged, opened, take_piece, with_argument, with_header, with_rest, with_state}

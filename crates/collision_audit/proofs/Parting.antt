@@ -26,7 +26,7 @@ use Rattle.value_store.specs.Standing.{ProverNodes, StandsFor}
 use Rattle.collision_audit.specs.Audits.{Audit, Judges}
 use Rattle.collision_audit.proofs.FirstSplits.{not_same}
 use Rattle.collision_audit.specs.Splits.{left_behind}
-use Rattle.collision_audit.specs.AuditAnswers.{AreLeft, StopsBehind}
+use Rattle.collision_audit.specs.AuditsInCode.{AreLeft, StopsBehind}
 use Rattle.collision_audit.specs.Comparing.{Compares, ComparesAll, IsAhead, IsCounted, TakesPiece, TellsDifference}
 use Rattle.collision_audit.specs.PieceAudits.{audit_file, audit_from, differing}
 use Rattle.prover_mode.specs.Seen.{AreSeen, IsSeen}

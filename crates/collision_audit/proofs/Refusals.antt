@@ -5,9 +5,10 @@ use Rattle.core_terms.specs.Types.{Ty}
 use Rattle.core_terms.specs.Formats.{Format, Hash, IsHash, IsFormat}
 use Rattle.core_terms.specs.Projection.{digest_at, projection, projections, Fits, AllFit, read_at}
 use Rattle.core_terms.specs.Reading.{Read, Good, BadAt}
-use Rattle.core_terms.specs.Roles.{IsRole, ReadsState}
+use Rattle.core_terms.specs.RoleTypes.{IsRole, ReadsState}
 use Rattle.core_terms.specs.Spelling.{spelling}
-use Rattle.core_terms.specs.Terms.{Kind, Program, IsTyped, function_at}
+use Rattle.core_terms.specs.Terms.{Kind, Program, function_at}
+use Rattle.core_terms.specs.TypingRules.{IsTyped}
 use Rattle.core_terms.specs.Values.{Value, Values, IsIdeal, AreIdeal}
 use Rattle.ideal_meaning.specs.Agreement.{AllOpenedFit, Follows, IsRefused, OffersOther, Parts, TookHonest, honest_so_far}
 use Rattle.ideal_meaning.specs.Checked.{Cause, Rejected, Taking, Verdict, WrongPiece, before_all, checked, judge, judged, opened, take_piece, with_argument, with_header, with_state}

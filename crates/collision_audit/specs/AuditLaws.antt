@@ -3,8 +3,9 @@ use Rattle.std.specs.Prelude.{◌≡◌, ◌≢◌, ◌⊎◌, ◌↔◌, ℕ, z
 use Rattle.core_terms.specs.Types.{Ty}
 use Rattle.core_terms.specs.Formats.{Format, Hash, IsHash, IsFormat}
 use Rattle.core_terms.specs.Projection.{Fits}
-use Rattle.core_terms.specs.Roles.{IsRole, ReadsState, role_result}
-use Rattle.core_terms.specs.Terms.{Kind, Program, IsTyped}
+use Rattle.core_terms.specs.RoleTypes.{IsRole, ReadsState, role_result}
+use Rattle.core_terms.specs.Terms.{Kind, Program}
+use Rattle.core_terms.specs.TypingRules.{IsTyped}
 use Rattle.core_terms.specs.Values.{Value, IsIdeal}
 use Rattle.ideal_meaning.specs.Checked.{Accepted, IsSplitAt}
 use Rattle.ideal_meaning.specs.Headline.{call_of}

@@ -6,3 +6,4 @@ pub mod PieceAudits
 pub mod PieceLaws
 pub mod AuditAnswers
 pub mod Comparing
+pub mod AuditsInCode

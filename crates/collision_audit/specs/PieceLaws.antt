@@ -3,8 +3,9 @@ use Rattle.std.specs.Prelude.{◌≡◌, ℕ, List}
 use Rattle.core_terms.specs.Types.{Ty}
 use Rattle.core_terms.specs.Formats.{Hash, IsHash, IsFormat}
 use Rattle.core_terms.specs.Projection.{Fits}
-use Rattle.core_terms.specs.Roles.{IsRole, ReadsState}
-use Rattle.core_terms.specs.Terms.{Kind, Program, IsTyped}
+use Rattle.core_terms.specs.RoleTypes.{IsRole, ReadsState}
+use Rattle.core_terms.specs.Terms.{Kind, Program}
+use Rattle.core_terms.specs.TypingRules.{IsTyped}
 use Rattle.core_terms.specs.Values.{Value, AuthWithin, IsIdeal}
 use Rattle.collision_audit.specs.Audits.{audit_of}
 use Rattle.collision_audit.specs.PieceAudits.{audit_by_pieces}

@@ -14,7 +14,8 @@ ghost use Rattle.mode_vm.specs.Meanings.{program_of};
 ghost use Rattle.mode_vm.specs.StateCalls.{IsCalledOn, TakesState};
 ghost use Rattle.prover_mode.specs.Seen.{AreSeen};
 ghost use Rattle.collision_audit.specs.Audits.{audit_of};
-ghost use Rattle.collision_audit.specs.AuditAnswers.{AuditCause, AuditsTruly, StopsAtDifference, TellsAudit};
+ghost use Rattle.collision_audit.specs.AuditAnswers.{TellsAudit};
+ghost use Rattle.collision_audit.specs.AuditsInCode.{AuditCause, AuditsTruly, StopsAtDifference};
 ghost use Rattle.collision_audit.specs.PieceAudits.{run_audit};
 
 use crate::audited::{AuditFault, Audited};

@@ -12,7 +12,7 @@ ghost use Rattle.ideal_meaning.specs.Ideal as ideal;
 ghost use Rattle.proof_stream.specs.Readers.{limit_of};
 ghost use Rattle.value_store.specs.Standing.{ProverNodes, StandsFor};
 ghost use Rattle.collision_audit.specs.Splits.{left_behind, rest_behind};
-ghost use Rattle.collision_audit.specs.AuditAnswers.{AreLeft, AuditCause, StopsBehind};
+ghost use Rattle.collision_audit.specs.AuditsInCode.{AreLeft, AuditCause, StopsBehind};
 ghost use Rattle.collision_audit.specs.Comparing.{Compares, ComparesAll, IsAhead, TellsDifference};
 ghost use Rattle.collision_audit.specs.PieceAudits.{audit_file, audit_from, differing};
 ghost use Rattle.prover_mode.specs.Seen.{AreSeen};

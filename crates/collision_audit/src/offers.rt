@@ -6,7 +6,7 @@ ghost use Rattle.ideal_meaning.specs.Frames.{Offer, header};
 ghost use Rattle.proof_stream.specs.Readers.{limit_of, piece_of};
 ghost use Rattle.proof_stream.specs.Incoming.{FrameCause};
 ghost use Rattle.proof_stream.specs.declared.frame.Frame.{Frame as FrameTold};
-ghost use Rattle.collision_audit.specs.AuditAnswers.{AuditCause};
+ghost use Rattle.collision_audit.specs.AuditsInCode.{AuditCause};
 ghost use Rattle.collision_audit.specs.Comparing.{ComparesKept, ComparesNew, EndsAs, IsAhead, IsCounted, Opens, TakesPiece};
 
 use crate::audited::{AuditFault, Audited};

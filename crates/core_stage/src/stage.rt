@@ -5,7 +5,7 @@ ghost use Rattle.core_terms.specs.Values.{Value};
 ghost use Rattle.mode_vm.specs.Meanings.{program_of};
 ghost use Rattle.value_store.specs.Markings.{HasLimit};
 ghost use Rattle.value_store.specs.Stores.{nodes_in, store_lent};
-ghost use Rattle.session_meaning.specs.Messages.{IsReply};
+ghost use Rattle.session_meaning.specs.MessageFields.{IsReply};
 ghost use Rattle.session_turns.specs.Versions.{IsVersion};
 ghost use Rattle.session_meaning.specs.Server as meant;
 ghost use Rattle.sha2.specs.Sha256.{sha256};

@@ -5,7 +5,8 @@ use Rattle.core_terms.specs.Formats.{IsFormat}
 use Rattle.core_terms.specs.Programs.{meaning}
 use Rattle.core_terms.specs.ProgramTypes.{program_with}
 use Rattle.core_terms.specs.Terms as tree
-use Rattle.core_terms.specs.Terms.{IsTyped, function_at, no_function}
+use Rattle.core_terms.specs.Terms.{function_at, no_function}
+use Rattle.core_terms.specs.TypingRules.{IsTyped}
 use Rattle.core_terms.specs.declared.program.Program.{Program}
 use Rattle.core_terms.specs.declared.program_types.Types.{Types}
 use Rattle.core_terms.specs.declared.term.Function.{Function}

@@ -11,7 +11,8 @@ use Rattle.core_terms.specs.Types.{Ty, UnitTy, BoolTy, IntTy, TextTy, PairTy, Na
 use Rattle.core_terms.proofs.SameTypes.{first_of, second_of, same_sound}
 use Rattle.core_terms.specs.Instructions.{Instruction, PushUnit, PushBool, PushInt, PushText, Load, Bind, Unbind, Pair, Fst, Snd, Make, Switch, Branch, Jump, Call, Return, Auth, Unauth, ArithOp, CompareOp, TextCompareOp, Cat, Len, Not, VecFill, VecGet, VecPut}
 use Rattle.core_terms.specs.Bodies.{FunctionCode, Body, code_at, no_function_code}
-use Rattle.core_terms.specs.Accepted.{Shape, shape, push_types, Fits, IsFine, IsAccepted}
+use Rattle.core_terms.specs.Accepted.{push_types, Fits, IsFine, IsAccepted}
+use Rattle.core_terms.specs.CodeShapes.{Shape, shape}
 use Rattle.core_terms.specs.Kinds.{is_there, is_there_in, kinds_test, same_types, same_shape, Way, way, next, next_if, without_one, without, behind_operands, ways_by_tag, ways, Known, Unreached, Reached, Clashing, met, reach, reach_all, behind, fault_or, first_fault, at_start, fault_in, function_fault, fault_at, kind_fault_from, kind_fault}
 
 some_is : {A : Type 0} {a b : A} → Some a ≡ Some b → a ≡ b

@@ -6,7 +6,7 @@ use Rattle.core_terms.specs.Types.{Table, BoolTy, IntTy, TextTy, PairTy, NamedTy
 use Rattle.core_terms.specs.Formats.{Format, IsFormat, first_format}
 use Rattle.core_terms.specs.Names.{IsName}
 use Rattle.core_terms.specs.Terms.{Function, Program}
-use Rattle.core_terms.specs.ProgramLimits.{IsBodyWithin, IsFunctionWithin, IsWithinLimits, expressions_in_all, instructions_in_all, levels_of, levels_of_type, locals_in}
+use Rattle.core_terms.specs.ProgramSizes.{IsBodyWithin, IsFunctionWithin, IsWithinLimits, expressions_in_all, instructions_in_all, levels_of, levels_of_type, locals_in}
 use Rattle.core_terms.specs.Values.{Value, BoolV, IntV, TextV, PairV, NoV, AndV, AreWithin, AuthWithin}
 use Rattle.core_terms.specs.Projection.{AllFit, Fits}
 use Rattle.core_terms.specs.FormatRows.{other_program}

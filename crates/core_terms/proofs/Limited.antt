@@ -5,7 +5,8 @@ use Rattle.std.specs.List.{list_all}
 use Rattle.std.proofs.lemmas.List.Elements.{All-head, All-tail}
 use Rattle.core_terms.specs.Types.{Ty, has_tags}
 use Rattle.core_terms.specs.Terms.{Program}
-use Rattle.core_terms.specs.ProgramLimits.{IsWithinLimits, most_constructors}
+use Rattle.core_terms.specs.ProgramLimits.{most_constructors}
+use Rattle.core_terms.specs.ProgramSizes.{IsWithinLimits}
 
 -- where each element has a property, and what has it passes the test, all pass it
 pub all_pass : {A : Type 0} (P : A → Type 0) (test : A → Bool) → ((x : A) → P x → test x ≡ true) → (xs : List A) → All P xs → list_all test xs ≡ true

@@ -4,7 +4,8 @@ use Rattle.std.specs.Option.{option_and_then}
 use Rattle.core_terms.specs.Types.{Ty, UnitTy, BoolTy, IntTy, TextTy, PairTy, NamedTy, AuthTy, VecTy, Table, fields_at, item_types, OnFields}
 use Rattle.core_terms.specs.Values.{Value, UnitV, BoolV, IntV, TextV, PairV, ConV, ItemsV, Values, NoV, AndV, IsIdeal, AreIdeal, IsShallow, AreShallow}
 use Rattle.core_terms.specs.Spelling.{shallow, shallow_all}
-use Rattle.core_terms.specs.Roles.{some_passes, has_auth_within, IsPlain}
+use Rattle.core_terms.specs.Roles.{some_passes, has_auth_within}
+use Rattle.core_terms.specs.RoleTypes.{IsPlain}
 
 pub first_no : (a b : Bool) → a || b ≡ false → a ≡ false
 first_no true b e = cc

@@ -3,7 +3,8 @@ use Rattle.std.proofs.Common.{◌≡◌, ◌⊎◌, inl, inr, ℕ, zero, suc, �
 use Rattle.std.proofs.lemmas.Option.{slice_get_past}
 use Rattle.std.proofs.lemmas.Bool.{eqb-true, eqb-false, leb-true, leb-false}
 use Rattle.core_terms.specs.Types.{Ty, UnitTy, BoolTy, IntTy, TextTy, PairTy, NamedTy, AuthTy, VecTy, Table}
-use Rattle.core_terms.specs.Roles.{some_passes, has_auth_within, has_auth, IsPlain}
+use Rattle.core_terms.specs.Roles.{some_passes, has_auth_within, has_auth}
+use Rattle.core_terms.specs.RoleTypes.{IsPlain}
 
 -- a choice that passes still passes where each of its sides does
 or_more : (a b c d : Bool) → (a ≡ true → c ≡ true) → (b ≡ true → d ≡ true) → a || b ≡ true → c || d ≡ true

@@ -6,7 +6,8 @@ use Rattle.std.proofs.lemmas.Option.{slice_get-map}
 use Rattle.core_terms.specs.Types.{Ty, UnitTy}
 use Rattle.core_terms.specs.Terms as tree
 use Rattle.core_terms.specs.Terms.{Kind, Inner, Init, Query, Update, Program}
-use Rattle.core_terms.specs.Roles.{HasRoleShape, IsRole, argument_place, is_entered, role_parameters, role_result, role_with, roles_among, program_roles}
+use Rattle.core_terms.specs.Roles.{argument_place, is_entered, role_with, roles_among, program_roles}
+use Rattle.core_terms.specs.RoleTypes.{HasRoleShape, IsRole, role_parameters, role_result}
 use Rattle.core_terms.specs.Typing.{is_shaped}
 use Rattle.core_terms.specs.ProgramTrees.{function_of}
 use Rattle.core_terms.specs.RoleViews.{HaveArguments}

@@ -2,8 +2,10 @@
 use Rattle.std.proofs.Common.{◌≡◌, ℕ, zero, suc, Bool, true, false, not, List, [], ◌∷◌, Some, slice_get, refl, sym, ap, ◌∙◌, subst}
 use Rattle.core_terms.specs.Types.{Ty, UnitTy, PairTy, same_type}
 use Rattle.core_terms.specs.Terms.{Kind, Inner, Init, Query, Update, Function, Program}
-use Rattle.core_terms.specs.Roles.{has_auth, is_entered, IsPlain, IsRole, role_parameters, role_result}
-use Rattle.core_terms.specs.Typing.{shape_test, all_shaped, is_shaped}
+use Rattle.core_terms.specs.Roles.{has_auth, is_entered}
+use Rattle.core_terms.specs.RoleTypes.{IsPlain, IsRole, role_parameters, role_result}
+use Rattle.core_terms.specs.Typing.{all_shaped, is_shaped}
+use Rattle.core_terms.specs.RoleShapes.{shape_test}
 use Rattle.core_terms.proofs.Reach.{plain_by_test}
 use Rattle.core_terms.proofs.TypingComplete.{both, same_self}
 use Rattle.core_terms.proofs.SameTypes.{first_of, second_of, same_sound}

@@ -2,7 +2,8 @@
 use Rattle.std.proofs.Common.{◌≡◌, ℕ, suc, Bool, true, false, ◌&&◌, List, [], ◌∷◌, ◌++◌, length, Option, Some, None, slice_get, unwrap_or, refl, sym, subst, eq-eqb, le-leb}
 use Rattle.std.proofs.lemmas.Str.{is_utf8-from_IsUtf8}
 use Rattle.core_terms.specs.Types.{Ty, UnitTy, BoolTy, IntTy, TextTy, PairTy, NamedTy, AuthTy, VecTy, fields_at, OnFields, same_type}
-use Rattle.core_terms.specs.Terms.{Expression, UnitE, BoolE, IntE, TextE, LocalE, PairE, FstE, SndE, NotE, LenE, AuthE, UnauthE, ConE, ArithE, CompareE, TextCompareE, CatE, LetE, IfE, MatchE, CallE, OperateE, operand_types, result_type, Expressions, NoE, AndE, Arms, NoArm, AndArm, Program, Function, OnFunction, HasType, HaveTypes, HaveArms, IsTypedAs, IsTyped}
+use Rattle.core_terms.specs.Terms.{Expression, UnitE, BoolE, IntE, TextE, LocalE, PairE, FstE, SndE, NotE, LenE, AuthE, UnauthE, ConE, ArithE, CompareE, TextCompareE, CatE, LetE, IfE, MatchE, CallE, OperateE, operand_types, result_type, Expressions, NoE, AndE, Arms, NoArm, AndArm, Program, Function}
+use Rattle.core_terms.specs.TypingRules.{OnFunction, HasType, HaveTypes, HaveArms, IsTypedAs, IsTyped}
 use Rattle.core_terms.specs.Typing.{is_at, fields_test, function_test, has_type, have_types, have_arms, all_typed, is_typed_as, is_typed}
 
 pub both : (a b : Bool) → a ≡ true → b ≡ true → a && b ≡ true

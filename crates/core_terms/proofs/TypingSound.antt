@@ -3,7 +3,8 @@ use Rattle.std.proofs.Common.{◌≡◌, ℕ, zero, suc, Bool, true, ◌&&◌, L
 use Rattle.std.specs.Str.{is_utf8}
 use Rattle.std.proofs.lemmas.Str.{IsUtf8-from_is_utf8}
 use Rattle.core_terms.specs.Types.{Ty, UnitTy, BoolTy, IntTy, TextTy, PairTy, NamedTy, AuthTy, fields_at, OnFields, same_type}
-use Rattle.core_terms.specs.Terms.{Expression, UnitE, BoolE, IntE, TextE, LocalE, PairE, FstE, SndE, NotE, LenE, AuthE, UnauthE, ConE, ArithE, CompareE, TextCompareE, CatE, LetE, IfE, MatchE, CallE, OperateE, operand_types, result_type, is_operation, Expressions, NoE, AndE, Arms, NoArm, AndArm, Program, Function, OnFunction, HasType, HaveTypes, HaveArms, body_of, IsTypedAs, IsTyped}
+use Rattle.core_terms.specs.Terms.{Expression, UnitE, BoolE, IntE, TextE, LocalE, PairE, FstE, SndE, NotE, LenE, AuthE, UnauthE, ConE, ArithE, CompareE, TextCompareE, CatE, LetE, IfE, MatchE, CallE, OperateE, operand_types, result_type, Expressions, NoE, AndE, Arms, NoArm, AndArm, Program, Function, body_of}
+use Rattle.core_terms.specs.TypingRules.{is_operation, OnFunction, HasType, HaveTypes, HaveArms, IsTypedAs, IsTyped}
 use Rattle.core_terms.specs.Instructions.{Instruction}
 use Rattle.core_terms.specs.Typing.{is_at, fields_test, function_test, has_type, have_types, have_arms, all_typed, is_typed_as, is_typed}
 use Rattle.core_terms.proofs.SameTypes.{first_of, second_of, same_sound}

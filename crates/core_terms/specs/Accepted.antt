@@ -4,14 +4,7 @@ use Rattle.core_terms.specs.Types.{Ty, UnitTy, BoolTy, IntTy, TextTy, PairTy, Na
 use Rattle.core_terms.specs.Values.{int_fits}
 use Rattle.core_terms.specs.Instructions.{Instruction, PushUnit, PushBool, PushInt, PushText, Load, Bind, Unbind, Pair, Fst, Snd, Make, Switch, Branch, Jump, Call, Return, Auth, Unauth, ArithOp, CompareOp, TextCompareOp, Cat, Len, Not, VecFill, VecGet, VecPut}
 use Rattle.core_terms.specs.Bodies.{Body, code_at}
-
--- the types of the locals, and those of the operands, the top one first, before an instruction
-pub record Shape : Type 0 where
-  pub locals : List Ty
-  pub operands : List Ty
-
-abbrev pub shape : List Ty → List Ty → Shape
-shape ls os = record { locals = ls; operands = os }
+use Rattle.core_terms.specs.CodeShapes.{Shape, shape}
 
 -- the operands with those of a list, the last of them being the top
 abbrev pub push_types : List Ty → List Ty → List Ty

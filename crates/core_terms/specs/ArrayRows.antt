@@ -5,7 +5,7 @@ use Rattle.core_terms.specs.Values.{Value, UnitV, BoolV, IntV, PairV, ItemsV, No
 use Rattle.core_terms.specs.Spelling.{spelling, shallow}
 use Rattle.core_terms.specs.Reading.{Good, BadAt, read}
 use Rattle.core_terms.specs.Terms.{Expression, LocalE, OperateE, VecFill, VecGet, VecPut, NoE, AndE}
-use Rattle.core_terms.specs.ProgramLimits.{expressions_in, levels_of, levels_of_type}
+use Rattle.core_terms.specs.ProgramSizes.{expressions_in, levels_of, levels_of_type}
 use Rattle.core_terms.specs.ValueRows.{marks}
 use Rattle.core_terms.specs.TypingRows.{takes}
 

@@ -5,7 +5,7 @@ use Rattle.core_terms.specs.Formats.{Format, Hash, first_format, message_limit}
 use Rattle.core_terms.specs.Values.{UnitV, BoolV, IntV, TextV, PairV, ConV, DigestV, NoV, AndV, IsIdeal}
 use Rattle.core_terms.specs.Reading.{Good, BadAt}
 use Rattle.core_terms.specs.Terms.{Inner, Init, Query, Update, Program}
-use Rattle.core_terms.specs.Roles.{ReadsState}
+use Rattle.core_terms.specs.RoleTypes.{ReadsState}
 use Rattle.core_terms.specs.Projection.{digest_at, projection, projections, read_at}
 use Rattle.core_terms.specs.ValueRows.{of_three, two_types}
 

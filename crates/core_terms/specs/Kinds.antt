@@ -9,7 +9,7 @@ use Rattle.core_terms.specs.ProgramLimits.{most_locals}
 use Rattle.core_terms.specs.Values.{int_fits}
 use Rattle.core_terms.specs.Instructions.{Instruction, PushUnit, PushBool, PushInt, PushText, Load, Bind, Unbind, Pair, Fst, Snd, Make, Switch, Branch, Jump, Call, Return, Auth, Unauth, ArithOp, CompareOp, TextCompareOp, Cat, Len, Not, VecFill, VecGet, VecPut}
 use Rattle.core_terms.specs.Bodies.{FunctionCode, Body, code_at}
-use Rattle.core_terms.specs.Accepted.{Shape, shape}
+use Rattle.core_terms.specs.CodeShapes.{Shape, shape}
 
 -- the lists have the same types
 abbrev pub same_types : List Ty → List Ty → Bool

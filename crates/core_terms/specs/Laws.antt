@@ -5,8 +5,10 @@ use Rattle.core_terms.specs.Formats.{IsFormat, first_format, second_format}
 use Rattle.core_terms.specs.Values.{Value, IsIdeal, IsShallow, IsWithin, size, depth}
 use Rattle.core_terms.specs.Spelling.{AreBytes, Spells, spelling, shallow}
 use Rattle.core_terms.specs.Reading.{Good, BadAt, read}
-use Rattle.core_terms.specs.Terms.{Function, Program, IsTyped}
-use Rattle.core_terms.specs.Roles.{IsPlain, IsRole, is_entered}
+use Rattle.core_terms.specs.Terms.{Function, Program}
+use Rattle.core_terms.specs.TypingRules.{IsTyped}
+use Rattle.core_terms.specs.Roles.{is_entered}
+use Rattle.core_terms.specs.RoleTypes.{IsPlain, IsRole}
 use Rattle.core_terms.specs.Typing.{is_typed, is_shaped}
 use Rattle.core_terms.specs.ProgramFormats.{format_with}
 use Rattle.core_terms.specs.declared.format.Format.TheVariants.{First, Second}

@@ -37,3 +37,9 @@ pub mod FormatRows
 pub mod Faults
 pub mod SecondRows
 pub mod ArrayRows
+pub mod GeneratedCode
+pub mod ProgramSizes
+pub mod TypingRules
+pub mod RoleShapes
+pub mod CodeShapes
+pub mod RoleTypes

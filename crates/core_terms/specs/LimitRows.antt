@@ -5,7 +5,8 @@ use Rattle.core_terms.specs.Terms.{Expression, UnitE, BoolE, LocalE, PairE, FstE
 use Rattle.core_terms.specs.declared.term.Arith.TheVariants.{Add}
 use Rattle.core_terms.specs.declared.term.Compare.TheVariants.{Lt}
 use Rattle.core_terms.specs.declared.term.TextCompare.TheVariants.{Lt as TLt}
-use Rattle.core_terms.specs.ProgramLimits.{expressions_in, expressions_in_all, levels_of, levels_of_type, locals_in, longest_name, most_constructors, most_expressions, most_fields, most_functions, most_levels, most_locals, most_parameters, most_types}
+use Rattle.core_terms.specs.ProgramLimits.{longest_name, most_constructors, most_expressions, most_fields, most_functions, most_levels, most_locals, most_parameters, most_types}
+use Rattle.core_terms.specs.ProgramSizes.{expressions_in, expressions_in_all, levels_of, levels_of_type, locals_in}
 
 -- so many negations, one of another
 abbrev pub negations : ℕ → Expression

@@ -3,7 +3,8 @@ use Rattle.std.specs.Prelude.{◌≡◌, ℕ, List, [], ◌∷◌, codes, true, 
 use Rattle.core_terms.specs.Types.{Ty, UnitTy, BoolTy, IntTy, TextTy, PairTy, NamedTy, AuthTy, Table}
 use Rattle.core_terms.specs.Formats.{first_format}
 use Rattle.core_terms.specs.Terms.{UnitE, Inner, Init, Query, Update, Function, Kind, Program}
-use Rattle.core_terms.specs.Roles.{argument_type, has_auth, init_type, program_roles, role_function, role_named}
+use Rattle.core_terms.specs.Roles.{argument_type, has_auth, program_roles, role_named}
+use Rattle.core_terms.specs.RoleTypes.{init_type, role_function}
 
 abbrev pub declared : List ℕ → Kind → List Ty → Ty → Function
 declared name kind parameters result = record { name = name; kind = kind; parameters = parameters; result = result; body = UnitE }

@@ -8,7 +8,8 @@ use Rattle.core_terms.specs.Terms.{Expression, UnitE, BoolE, IntE, TextE, LocalE
 use Rattle.core_terms.specs.declared.term.Arith.TheVariants.{Rem}
 use Rattle.core_terms.specs.declared.term.Compare.TheVariants.{Lt}
 use Rattle.core_terms.specs.declared.term.TextCompare.TheVariants.{Lt as TLt}
-use Rattle.core_terms.specs.Typing.{has_type, is_typed, shape_test}
+use Rattle.core_terms.specs.Typing.{has_type, is_typed}
+use Rattle.core_terms.specs.RoleShapes.{shape_test}
 
 -- a program with one named type of two constructors, of no field, and of an int and a text; and a function from an int and a bool to a text
 abbrev pub small : Program

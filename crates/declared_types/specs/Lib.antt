@@ -12,3 +12,4 @@ pub mod Scopes
 pub mod Numbering
 pub mod Passes
 pub mod RoleHeads
+pub mod RoleKinds

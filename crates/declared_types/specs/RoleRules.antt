@@ -2,18 +2,11 @@
 use Rattle.std.specs.Prelude.{ℕ, Bool, false, not, ◌&&◌, List, [], ◌∷◌}
 use Rattle.core_terms.specs.Types.{Ty, PairTy, Table, same_type}
 use Rattle.core_terms.specs.declared.format.Format.{Format}
-use Rattle.core_terms.specs.Terms.{Kind, Inner, Init, Query, Update}
 use Rattle.core_terms.specs.Roles.{has_auth}
 use Rattle.auth_syntax.specs.Syntax.{TypeSyntax, place_of_type, ParameterSyntax, KindSyntax, InnerSyntax, InitSyntax, QuerySyntax, UpdateSyntax, FunctionSyntax}
 use Rattle.declared_types.specs.Checking.{Checking, Sound, FaultAt, then_checked, unless_fault}
 use Rattle.declared_types.specs.WrittenTypes.{type_meant}
 use Rattle.declared_types.specs.declared.fault.TypeKind.TheVariants.{RoleShape, AuthInArgument}
-
-abbrev pub kind_meant : KindSyntax → Kind
-kind_meant InnerSyntax = Inner
-kind_meant InitSyntax = Init
-kind_meant QuerySyntax = Query
-kind_meant UpdateSyntax = Update
 
 -- the result of an update of this state: a pair of which the first is a new one
 abbrev pub is_new_state : Ty → Ty → Bool

@@ -3,8 +3,9 @@
 use Rattle.std.specs.Prelude.{◌≡◌, [], ◌∷◌, true, false}
 use Rattle.core_terms.specs.Types.{Ty, UnitTy, BoolTy, IntTy, TextTy, NamedTy, AuthTy, VecTy}
 use Rattle.core_terms.specs.Values.{Value, TextV, ConV, ItemsV, NoV, AndV, AuthWithin, IsShallow, depth}
-use Rattle.core_terms.specs.Terms.{Expression, LocalE, OperateE, VecFill, VecGet, VecPut, NoE, AndE, HasType, is_operation}
-use Rattle.core_terms.specs.ProgramLimits.{locals_in}
+use Rattle.core_terms.specs.Terms.{Expression, LocalE, OperateE, VecFill, VecGet, VecPut, NoE, AndE}
+use Rattle.core_terms.specs.TypingRules.{HasType, is_operation}
+use Rattle.core_terms.specs.ProgramSizes.{locals_in}
 use Rattle.core_terms.specs.Roles.{has_auth}
 use Rattle.core_terms.specs.AuthMarks.{mark_of_form}
 use Rattle.core_terms.specs.TypeTables.{is_form_in, is_in_order, types_of_forms}

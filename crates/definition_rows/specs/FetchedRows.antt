@@ -13,7 +13,8 @@ use Rattle.ideal_meaning.specs.Wire.{Wire}
 use Rattle.ideal_meaning.specs.Frames.{Breaks, Lacks, NoMore, Offers}
 use Rattle.ideal_meaning.specs.Checked.{Accepted, BadArgument, BadPiece, BadState, Broken, Cause, IsSplitAt, Missing, Rejected, Short, Taking, Verdict, WrongPiece, before_all}
 use Rattle.ideal_meaning.specs.Examples.{toy, unit_program}
-use Rattle.ideal_meaning.specs.Fetched.{Answered, Gave, GaveLast, Got, HasDigest, HoldsAll, IsBroken, IsLack, IsPiece, IsStore, TrueFromOrSplit, answered, asking, ended, verdict_from, whole_pieces}
+use Rattle.ideal_meaning.specs.Fetched.{Answered, Gave, GaveLast, Got, HoldsAll, IsBroken, IsLack, IsPiece, TrueFromOrSplit, answered, asking, ended, verdict_from, whole_pieces}
+use Rattle.ideal_meaning.specs.FetchLaws.{HasDigest, IsStore}
 use Rattle.definition_rows.specs.SecondFormatRows.{in_second}
 
 -- the verdict on opening a unit, where these are the answers

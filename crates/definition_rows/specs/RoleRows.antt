@@ -3,8 +3,10 @@ use Rattle.std.specs.Prelude.{◌≡◌, ℕ, [], ◌∷◌, true, false, None}
 use Rattle.core_terms.specs.Types.{Ty, UnitTy, BoolTy, IntTy, TextTy, PairTy, NamedTy, AuthTy, Table}
 use Rattle.core_terms.specs.Formats.{first_format}
 use Rattle.core_terms.specs.Terms.{Inner, Init, Query, Update, Function, Kind, Program}
-use Rattle.core_terms.specs.Roles.{HasRoleShape, IsPlain, IsRole, has_auth, role_parameters, role_result}
-use Rattle.core_terms.specs.Typing.{is_shaped, shape_test}
+use Rattle.core_terms.specs.Roles.{has_auth}
+use Rattle.core_terms.specs.RoleTypes.{HasRoleShape, IsPlain, IsRole, role_parameters, role_result}
+use Rattle.core_terms.specs.Typing.{is_shaped}
+use Rattle.core_terms.specs.RoleShapes.{shape_test}
 use Rattle.core_terms.specs.RoleRows.{declared, five}
 use Rattle.core_terms.specs.TypingRows.{small}
 use Rattle.core_terms.specs.TypeTables.{HasNoNumber, HasOneNumber, IsWithForm}

@@ -2,7 +2,8 @@
 use Rattle.std.specs.Prelude.{[], ◌∷◌, true, pos, replicate, None}
 use Rattle.core_terms.specs.Types.{Ty, UnitTy, BoolTy, IntTy, TextTy, PairTy, NamedTy, AuthTy}
 use Rattle.core_terms.specs.Formats.{first_format}
-use Rattle.core_terms.specs.Terms.{Expression, UnitE, BoolE, IntE, TextE, LocalE, PairE, FstE, SndE, NotE, LenE, AuthE, UnauthE, ConE, ArithE, CompareE, TextCompareE, CatE, LetE, IfE, MatchE, CallE, NoE, AndE, NoArm, AndArm, Inner, Program, HasType, IsTyped}
+use Rattle.core_terms.specs.Terms.{Expression, UnitE, BoolE, IntE, TextE, LocalE, PairE, FstE, SndE, NotE, LenE, AuthE, UnauthE, ConE, ArithE, CompareE, TextCompareE, CatE, LetE, IfE, MatchE, CallE, NoE, AndE, NoArm, AndArm, Inner, Program}
+use Rattle.core_terms.specs.TypingRules.{HasType, IsTyped}
 use Rattle.core_terms.specs.declared.term.Arith.TheVariants.{Rem}
 use Rattle.core_terms.specs.declared.term.Compare.TheVariants.{Lt}
 use Rattle.core_terms.specs.declared.term.TextCompare.TheVariants.{Lt as TLt}

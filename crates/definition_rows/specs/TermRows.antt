@@ -6,7 +6,7 @@ use Rattle.core_terms.specs.Terms.{Expression, UnitE, BoolE, LocalE, PairE, SndE
 use Rattle.core_terms.specs.declared.term.Arith.TheVariants.{Rem}
 use Rattle.core_terms.specs.declared.term.Compare.TheVariants.{Lt}
 use Rattle.core_terms.specs.declared.term.TextCompare.TheVariants.{Lt as TLt}
-use Rattle.core_terms.specs.ProgramLimits.{levels_of_arms, locals_in, locals_in_arms}
+use Rattle.core_terms.specs.ProgramSizes.{levels_of_arms, locals_in, locals_in_arms}
 use Rattle.core_terms.specs.LimitRows.{bind_two, two_constructors}
 use Rattle.core_terms.specs.RoleRows.{five}
 use Rattle.core_terms.specs.TypingRows.{takes}

@@ -7,11 +7,12 @@ use Rattle.std.proofs.lemmas.List.{length-map}
 use Rattle.std.proofs.lemmas.List.Elements.{All-cons, All-head, All-nil, All-tail}
 use Rattle.core_terms.specs.Instructions.{Return}
 use Rattle.core_terms.specs.ProgramFormats.{arrays_of}
-use Rattle.core_terms.specs.ProgramLimits.{locals_in, most_locals}
+use Rattle.core_terms.specs.ProgramLimits.{most_locals}
+use Rattle.core_terms.specs.ProgramSizes.{locals_in}
 use Rattle.core_terms.specs.Terms.{Function}
 use Rattle.core_terms.specs.Terms as tree
 use Rattle.core_terms.specs.Types.{Ty, Table}
-use Rattle.code_gen.specs.Code.{code_of, function_code}
+use Rattle.core_terms.specs.GeneratedCode.{code_of, function_code}
 use Rattle.auth_syntax.specs.Grammar.{expression_levels}
 use Rattle.auth_syntax.specs.Syntax.{FunctionSyntax, ParameterSyntax}
 use Rattle.auth_syntax.specs.TreeLimits.{expressions_in}

@@ -6,7 +6,7 @@ use Rattle.core_terms.specs.declared.term.BinaryOperator.{BinaryOperator}
 use Rattle.core_terms.specs.Types.{Ty, Table}
 use Rattle.core_terms.specs.Terms.{Arms, Expression, Expressions, Operation}
 use Rattle.core_terms.specs.Instructions.{Instruction, Fst, Snd, Pair, Not, Len, Auth, Unauth, Make, Unbind, ArithOp, CompareOp, TextCompareOp, Cat, Call, Bind}
-use Rattle.code_gen.specs.Code.{arm_codes, code_all, code_of, unbind_code}
+use Rattle.core_terms.specs.GeneratedCode.{arm_codes, code_all, code_of, unbind_code}
 use Rattle.auth_syntax.specs.Syntax.{ArmsSyntax, ArrayOperation, ExpSyntax, ExpsSyntax, NameSyntax}
 use Rattle.declared_types.specs.Signatures.{Scope, Signature}
 use Rattle.auth_types.specs.Bodies.{Local}

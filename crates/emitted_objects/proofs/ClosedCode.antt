@@ -1,7 +1,7 @@
 -- Code that names no types but those of a program, by the forms of expressions.
 use Rattle.std.proofs.Common.{ℕ, zero, suc, ◌+◌, ◌<◌, List, [], ◌∷◌, ◌++◌, length}
 use Rattle.core_terms.specs.Instructions.{Instruction, Branch, Jump}
-use Rattle.code_gen.specs.Code.{behind, if_code, laid, match_code, unbind_code}
+use Rattle.core_terms.specs.GeneratedCode.{behind, if_code, laid, match_code, unbind_code}
 use Rattle.object_meaning.specs.ClosedPrograms.{CodeIsClosed, IsClosedAt}
 
 module _ (n : ℕ) where

@@ -5,12 +5,13 @@ use Rattle.std.proofs.lemmas.List.{length-map}
 use Rattle.core_terms.specs.Formats.{Format}
 use Rattle.core_terms.specs.ProgramFormats.{arrays_of}
 use Rattle.core_terms.specs.ProgramLimits.{most_constructors, most_fields}
-use Rattle.core_terms.specs.Terms.{IsTypedAs}
+use Rattle.core_terms.specs.TypingRules.{IsTypedAs}
 use Rattle.core_terms.specs.Terms as tree
 use Rattle.core_terms.specs.Types.{Table}
 use Rattle.core_terms.proofs.TypingSound.{typed_sound}
-use Rattle.code_gen.specs.Code.{function_code}
-use Rattle.auth_syntax.specs.Grammar.{IsProgramText, nesting_limit}
+use Rattle.core_terms.specs.GeneratedCode.{function_code}
+use Rattle.auth_syntax.specs.Grammar.{IsProgramText}
+use Rattle.auth_syntax.specs.Nesting.{nesting_limit}
 use Rattle.auth_syntax.specs.Syntax.{Program}
 use Rattle.auth_syntax.proofs.Exact.{parsed_is_written}
 use Rattle.declared_types.specs.Checking.{Checking, FaultAt, Sound}

@@ -11,7 +11,8 @@ use Rattle.ideal_meaning.specs.Run.{Stop, Traps, IsOut, Rejects, Gives, Ends, th
 use Rattle.ideal_meaning.specs.Execution.{Ran, Stuck, then_code, then_coded}
 use Rattle.ideal_meaning.specs.Called.{ran}
 use Rattle.ideal_meaning.specs.Checked.{Cause, Taking, Verdict, BadState, BadArgument, Rejected, Accepted, WrongPiece, BadPiece, Missing, Broken, cause_of, checked_mode_as, digest_in, opened, take_as}
-use Rattle.ideal_meaning.specs.Fetched.{Got, IsPiece, IsLack, IsBroken, Answered, Gave, GaveLast, HasDigest, IsStore, answered, asking, ended, fetched, from_argument, from_state, verdict_from}
+use Rattle.ideal_meaning.specs.Fetched.{Got, IsPiece, IsLack, IsBroken, Answered, Gave, GaveLast, answered, asking, ended, fetched, from_argument, from_state, verdict_from}
+use Rattle.ideal_meaning.specs.FetchLaws.{HasDigest, IsStore}
 use Rattle.ideal_meaning.specs.Frames.{End, Lacks, Breaks, NoByte, IsCut, KindIs, LongBy, UseIs, Offer, NoMore, Offers}
 use Rattle.ideal_meaning.specs.PieceForms.{as_whole}
 use Rattle.ideal_meaning.specs.Wire.{Wire}

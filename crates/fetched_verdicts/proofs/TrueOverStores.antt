@@ -3,11 +3,12 @@ use Rattle.std.proofs.Common.{◌≡◌, inl, inr, ℕ, List, [], ◌∷◌, Opt
 use Rattle.core_terms.specs.Formats.{Hash, IsHash, IsFormat}
 use Rattle.core_terms.specs.Projection.{projection, read_at}
 use Rattle.core_terms.specs.Reading.{Good}
-use Rattle.core_terms.specs.Roles.{IsRole, ReadsState, role_result}
+use Rattle.core_terms.specs.RoleTypes.{IsRole, ReadsState, role_result}
 use Rattle.core_terms.specs.Spelling.{spelling}
 use Rattle.core_terms.specs.Instructions.{Instruction}
 use Rattle.core_terms.specs.Bodies.{code_at}
-use Rattle.core_terms.specs.Terms.{Kind, Program, body_of, function_at, IsTyped, IsTypedAs}
+use Rattle.core_terms.specs.Terms.{Kind, Program, body_of, function_at}
+use Rattle.core_terms.specs.TypingRules.{IsTyped, IsTypedAs}
 use Rattle.core_terms.specs.Types.{Ty}
 use Rattle.core_terms.specs.Values.{Value, IsIdeal}
 use Rattle.ideal_meaning.specs.Run.{Gives, Ends, Traps, IsOut, Rejects, state_of}

@@ -2,14 +2,16 @@
 use Rattle.std.specs.Prelude.{◌≡◌, ◌⊎◌, ℕ, List, []}
 use Rattle.core_terms.specs.Formats.{Hash, IsHash, IsFormat}
 use Rattle.core_terms.specs.Projection.{projection, Fits}
-use Rattle.core_terms.specs.Roles.{IsRole, ReadsState, role_result}
+use Rattle.core_terms.specs.RoleTypes.{IsRole, ReadsState, role_result}
 use Rattle.core_terms.specs.Spelling.{spelling}
-use Rattle.core_terms.specs.Terms.{IsTyped, Kind, Program}
+use Rattle.core_terms.specs.Terms.{Kind, Program}
+use Rattle.core_terms.specs.TypingRules.{IsTyped}
 use Rattle.core_terms.specs.Types.{Ty}
 use Rattle.core_terms.specs.Values.{Value, IsIdeal}
 use Rattle.ideal_meaning.specs.Agreement.{AllOpenedFit}
 use Rattle.ideal_meaning.specs.Checked.{Accepted, IsSplitAt}
-use Rattle.ideal_meaning.specs.Fetched.{Got, HoldsAll, IsStore, TrueFromOrSplit, answered, verdict_from, whole_pieces}
+use Rattle.ideal_meaning.specs.Fetched.{Got, HoldsAll, TrueFromOrSplit, answered, verdict_from, whole_pieces}
+use Rattle.ideal_meaning.specs.FetchLaws.{IsStore}
 use Rattle.ideal_meaning.specs.Frames.{offered_pieces}
 use Rattle.ideal_meaning.specs.Headline.{call_of}
 use Rattle.ideal_meaning.specs.Ideal.{Outcome, ideal, outcome, outcome_projection}

@@ -9,7 +9,8 @@ use Rattle.core_terms.specs.declared.outcome.Outcome.{Outcome}
 use Rattle.core_terms.specs.declared.byte_string.ByteString.{ByteString as Spelling}
 use Rattle.ideal_meaning.specs.Checked as checked
 use Rattle.ideal_meaning.specs.Checked.{Cause, WrongPiece, BadPiece, Missing, Broken, Verdict}
-use Rattle.ideal_meaning.specs.Fetched.{Got, IsPiece, IsLack, IsBroken, Answered, Gave, GaveLast, HasDigest, IsStore, verdict_from}
+use Rattle.ideal_meaning.specs.Fetched.{Got, IsPiece, IsLack, IsBroken, Answered, Gave, GaveLast, verdict_from}
+use Rattle.ideal_meaning.specs.FetchLaws.{HasDigest, IsStore}
 use Rattle.ideal_meaning.specs.Ideal as ideal
 use Rattle.piece_fetch.specs.Verdicts.{Judges, Tells, VerdictCause}
 use Rattle.piece_fetch.specs.declared.verdict.FetchCause.{FetchCause}

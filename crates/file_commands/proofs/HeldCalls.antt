@@ -3,7 +3,8 @@ use Rattle.std.proofs.Common.{ℕ, ◌<◌, ◌≡◌, length, slice_index_or, s
 use Rattle.sha2.specs.Sha256.{sha256}
 use Rattle.core_terms.specs.Programs.{meaning, types_of}
 use Rattle.core_terms.specs.RoleViews.{role_kind_of}
-use Rattle.core_terms.specs.Roles.{ReadsState, argument_type}
+use Rattle.core_terms.specs.Roles.{argument_type}
+use Rattle.core_terms.specs.RoleTypes.{ReadsState}
 use Rattle.core_terms.specs.Terms as tree
 use Rattle.core_terms.specs.TypeTables.{type_at}
 use Rattle.core_terms.specs.Types.{Ty, UnitTy}

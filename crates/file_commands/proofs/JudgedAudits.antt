@@ -1,7 +1,7 @@
 -- What is found of an audit of a call.
 use Rattle.std.proofs.Common.{◌≡◌, ℕ, List, Option, Some, None, Result, Ok, Err, IsErrAnd, refl, sym, ap, ◌∙◌, subst}
 use Rattle.lam_outside.specs.Told.{Contents}
-use Rattle.collision_audit.specs.AuditAnswers.{AuditCause}
+use Rattle.collision_audit.specs.AuditsInCode.{AuditCause}
 use Rattle.collision_audit.specs.declared.audited.AuditFault.{AuditFault}
 use Rattle.collision_audit.specs.declared.audited.AuditFault.TheVariants as fault
 use Rattle.file_commands.specs.Answer.{Answer, call_audit_answer, with_bytes, with_fueled_role, with_ideal_call}

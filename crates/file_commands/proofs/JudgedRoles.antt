@@ -20,14 +20,15 @@ use Rattle.ideal_meaning.specs.Checked as checked
 use Rattle.ideal_meaning.specs.Ideal as ideal
 use Rattle.printed_lines.specs.Lines.{named_done_line}
 use Rattle.verifier_mode.specs.Verdicts.{Answers, IsTold, VerdictCause}
-use Rattle.mode_vm.specs.StateCalls.{SpellsOutcome}
+use Rattle.ideal_meaning.specs.SpelledOutcomes.{SpellsOutcome}
 use Rattle.verifier_mode.specs.declared.verdict.Verdict.{Verdict}
 use Rattle.verifier_mode.specs.declared.verdict.Verdict.TheVariants as verdict
 use Rattle.shallow_codec.specs.ProgramTypes.{table, ty_of}
 use Rattle.core_terms.proofs.CodePrograms.{is_format}
 use Rattle.file_commands.specs.Answer.{Answer, accepted_answer, callee_of, says, shallow_told, spelling_stored, verdict_answer}
 use Rattle.file_commands.specs.FueledRoles.{FueledRole}
-use Rattle.file_commands.specs.Halting.{JudgementCause, ending_status, of_verdict}
+use Rattle.file_commands.specs.Halting.{JudgementCause, ending_status}
+use Rattle.file_commands.specs.VerdictHalts.{of_verdict}
 use Rattle.file_commands.specs.RoleCalls.{is_called, result_called, state_made}
 use Rattle.file_commands.specs.RolesCalled.{IsCalled, role_of}
 use Rattle.file_commands.specs.RolesJudged.{name_of}

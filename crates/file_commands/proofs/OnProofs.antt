@@ -3,7 +3,8 @@ use Rattle.std.proofs.Common.{◌≡◌, ◌<◌, ◌^◌, ℕ, List, [], refl, 
 use Rattle.sha2.specs.Sha256.{sha256}
 use Rattle.core_terms.specs.Projection.{read_at}
 use Rattle.core_terms.specs.Reading.{Read, Good}
-use Rattle.core_terms.specs.Roles.{ReadsState, argument_place, argument_type}
+use Rattle.core_terms.specs.Roles.{argument_place, argument_type}
+use Rattle.core_terms.specs.RoleTypes.{ReadsState}
 use Rattle.core_terms.specs.Spelling.{spelling}
 use Rattle.core_terms.specs.Terms.{Kind, Inner, Init, Query, Update, Program, function_at}
 use Rattle.core_terms.specs.Types.{Ty, UnitTy}

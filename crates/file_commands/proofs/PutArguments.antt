@@ -4,7 +4,7 @@ use Rattle.core_terms.specs.Programs.{constructor_names, meaning}
 use Rattle.core_terms.specs.ProgramTypes.{types_meaning}
 use Rattle.core_terms.specs.Projection.{read_at}
 use Rattle.core_terms.specs.Reading.{BadAt, Good}
-use Rattle.core_terms.specs.Roles.{IsPlain}
+use Rattle.core_terms.specs.RoleTypes.{IsPlain}
 use Rattle.core_terms.specs.Types.{Ty}
 use Rattle.core_terms.specs.Values.{Value}
 use Rattle.core_terms.specs.declared.fault.Fault.TheVariants as literal_fault

@@ -2,7 +2,8 @@
 use Rattle.std.proofs.Common.{◌≡◌, ◌⊎◌, inl, inr, ℕ, Bool, true, false, List, ◌++◌, [], ◌∷◌, cond, Option, Some, None, Result, Ok, Err, refl, ap, sym, ◌∙◌, subst, bytes_eq, arith}
 use Rattle.std.specs.Option.{ForSome}
 use Rattle.std.proofs.lemmas.Slice.Eq.{bytes_eq-Decides}
-use Rattle.lam_outside.specs.Told.{AsksFor, Contents, Names, Stores}
+use Rattle.lam_outside.specs.Told.{Contents, Names, Stores}
+use Rattle.lam_outside.specs.FileSteps.{AsksFor}
 use Rattle.printed_lines.specs.declared.refusal.Refusal.TheVariants as refusal
 use Rattle.core_terms.specs.Spelling.{spelling}
 use Rattle.file_commands.specs.Answer.{Answer, RoleCall, with_image_file, with_passed, with_state_file}

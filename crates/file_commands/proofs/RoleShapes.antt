@@ -6,7 +6,9 @@ use Rattle.core_terms.specs.Programs.{meaning, types_of}
 use Rattle.core_terms.specs.RoleViews as views
 use Rattle.core_terms.specs.RoleViews.{role_kind_of}
 use Rattle.core_terms.specs.Roles as definition
-use Rattle.core_terms.specs.Roles.{HasRoleShape, IsRole, argument_place, is_entered, ReadsState, program_roles, role_function, role_named, role_parameters}
+use Rattle.core_terms.specs.RoleTypes as role_types
+use Rattle.core_terms.specs.Roles.{argument_place, is_entered, program_roles, role_named}
+use Rattle.core_terms.specs.RoleTypes.{HasRoleShape, IsRole, ReadsState, role_function, role_parameters}
 use Rattle.core_terms.specs.Terms as tree
 use Rattle.core_terms.specs.Terms.{function_at, no_function}
 use Rattle.core_terms.specs.Types.{Ty, UnitTy}
@@ -90,7 +92,7 @@ module _ (P : tree.Program) (f : ℕ) (kind : tree.Kind) (argument answer : Ty) 
   pub parameters_are : (function_at P f).parameters ≡ role_parameters kind P.state argument
   parameters_are = ap (λ (g : tree.Function). g.parameters) (sym own) ∙ role.parameters
 
-  pub result_is : (function_at P f).result ≡ definition.role_result kind P.state answer
+  pub result_is : (function_at P f).result ≡ role_types.role_result kind P.state answer
   result_is = ap (λ (g : tree.Function). g.result) (sym own) ∙ role.result
 
   pub function_there : f < length P.functions

@@ -7,8 +7,10 @@ use Rattle.core_terms.specs.Formats.{Format, IsFormat}
 use Rattle.core_terms.specs.Types.{Ty, UnitTy}
 use Rattle.core_terms.specs.Values.{Value, IsIdeal}
 use Rattle.core_terms.specs.Spelling.{spelling}
-use Rattle.core_terms.specs.Terms.{Kind, Inner, Init, Query, Update, Program, IsTyped, function_at}
-use Rattle.core_terms.specs.Roles.{IsRole, ReadsState, argument_type, is_entered, role_result}
+use Rattle.core_terms.specs.Terms.{Kind, Inner, Init, Query, Update, Program, function_at}
+use Rattle.core_terms.specs.TypingRules.{IsTyped}
+use Rattle.core_terms.specs.Roles.{argument_type, is_entered}
+use Rattle.core_terms.specs.RoleTypes.{IsRole, ReadsState, role_result}
 use Rattle.core_terms.specs.Projection.{projection}
 use Rattle.core_terms.proofs.CodePrograms.{there}
 use Rattle.core_terms.proofs.LawProofs.{typing_test_is_exact, shape_test_is_exact}

@@ -1,6 +1,7 @@
 -- What a workload calls: its roles, by their kinds and the types of their arguments.
 use Rattle.std.proofs.Common.{◌≡◌, ℕ, Bool, true, false, Option, Some, cond, refl, ap, ap₂, ◌∙◌, subst, slice_index_or}
-use Rattle.core_terms.specs.Roles.{IsRole, ReadsState, argument_type}
+use Rattle.core_terms.specs.Roles.{argument_type}
+use Rattle.core_terms.specs.RoleTypes.{IsRole, ReadsState}
 use Rattle.core_terms.specs.Terms.{Kind, Inner, Init, Query, Update, Program}
 use Rattle.core_terms.specs.Types.{Ty, UnitTy, BoolTy, IntTy, TextTy, PairTy, NamedTy, AuthTy, VecTy}
 use Rattle.printed_lines.specs.declared.refusal.InputFault.TheVariants.{RoleKind}

@@ -14,7 +14,7 @@ use Rattle.core_terms.specs.ProgramTypes.{text_of}
 use Rattle.core_terms.specs.Projection.{digest_at}
 use Rattle.core_terms.specs.Reading.{BadAt}
 use Rattle.core_terms.specs.RoleViews.{role_kind_of}
-use Rattle.core_terms.specs.Roles.{IsRole, role_result}
+use Rattle.core_terms.specs.RoleTypes.{IsRole, role_result}
 use Rattle.core_terms.specs.Spelling.{spelling}
 use Rattle.core_terms.specs.Terms as tree
 use Rattle.core_terms.specs.Terms.{Query, Update, function_at}

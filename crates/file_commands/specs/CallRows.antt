@@ -6,7 +6,7 @@ use Rattle.std.proofs.Common.{arith, inl, inr}
 use Rattle.sha2.specs.Sha256.{sha256}
 use Rattle.command_words.specs.Invocations.{Invocation, calls}
 use Rattle.command_words.specs.declared.command.Command.TheVariants.{Audit, Prove}
-use Rattle.core_terms.specs.Roles.{IsRole}
+use Rattle.core_terms.specs.RoleTypes.{IsRole}
 use Rattle.core_terms.specs.Terms.{Program, Query, Update}
 use Rattle.core_terms.specs.Types.{IntTy, PairTy}
 use Rattle.collision_audit.specs.AuditAnswers.{HasNoSplit}

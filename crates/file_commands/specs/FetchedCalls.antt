@@ -8,7 +8,7 @@ use Rattle.core_terms.specs.declared.byte_string.ByteString.{ByteString as Spell
 use Rattle.ideal_meaning.specs.Checked as checked
 use Rattle.ideal_meaning.specs.Ideal as ideal
 use Rattle.lam_outside.specs.Told.{Contents}
-use Rattle.mode_vm.specs.StateCalls.{SpellsOutcome}
+use Rattle.ideal_meaning.specs.SpelledOutcomes.{SpellsOutcome}
 use Rattle.piece_fetch.specs.Verdicts.{Tells}
 use Rattle.piece_fetch.specs.declared.verdict.FetchCause.{FetchCause}
 use Rattle.piece_fetch.specs.declared.verdict.FetchCause.TheVariants.{Missing, Broken, WrongPiece, BadPiece}

@@ -1,5 +1,5 @@
 -- A file as a program: an object where it begins as one, and else a text.
-use Rattle.std.specs.Prelude.{ℕ, List, [], Bool, nat_eq, slice_get, unwrap_or, if◌then◌else◌}
+use Rattle.std.specs.Prelude.{ℕ, List, [], Bool, nat_eq, slice_get, unwrap_or, if◌then◌else◌, ◌≡◌, ◌≤◌, length}
 use Rattle.std.specs.List.{starts_with}
 use Rattle.printed_syntax.specs.Literals.{ConstructorNames}
 use Rattle.object_meaning.specs.Accepting.{Acceptance, Accepts, FirstFault, ObjectFault, accepting}
@@ -11,6 +11,7 @@ use Rattle.printed_lines.specs.declared.refusal.ObjectKind.{ObjectKind}
 use Rattle.printed_lines.specs.declared.refusal.ObjectKind.TheVariants as kind
 use Rattle.printed_lines.specs.declared.refusal.Refusal.TheVariants as refusal
 use Rattle.file_commands.specs.TextPrograms.{FileProgram, IsProgram, IsRefused, constructor_names_of_text, program_of_text}
+use Rattle.core_terms.specs.Terms.{Program}
 
 -- the bytes begin with the magic of objects
 unfoldable pub begins_as_object : List ℕ → Bool
@@ -55,3 +56,9 @@ program_of_file bytes = if begins_as_object bytes then program_of_object bytes e
 
 unfoldable pub constructor_names_of_file : List ℕ → ConstructorNames
 constructor_names_of_file bytes = if begins_as_object bytes then constructor_names_of_object bytes else constructor_names_of_text bytes
+
+-- the program is that of a text, or of an accepted object, which is no longer than it may be
+pub record IsOfTextOrObject (P : Program) : Type 0 where
+  pub bytes : List ℕ
+  pub fits : length bytes ≤ longest_program bytes
+  pub program : program_of_file bytes ≡ IsProgram P

@@ -6,7 +6,7 @@ use Rattle.core_terms.specs.declared.byte_string.ByteString.{ByteString as Spell
 use Rattle.core_terms.specs.declared.outcome.Outcome.{Outcome}
 use Rattle.ideal_meaning.specs.Ideal as ideal
 use Rattle.lam_outside.specs.Causes.{Rose}
-use Rattle.mode_vm.specs.StateCalls.{SpellsOutcome}
+use Rattle.ideal_meaning.specs.SpelledOutcomes.{SpellsOutcome}
 use Rattle.printed_lines.specs.Lines.{proof_line, refusal_line}
 use Rattle.printed_lines.specs.declared.refusal.InputFault.TheVariants as input_fault
 use Rattle.printed_lines.specs.declared.refusal.Refusal.{Refusal}
@@ -18,7 +18,8 @@ use Rattle.verifier_mode.specs.declared.verdict.Verdict.TheVariants as verdict
 use Rattle.file_commands.specs.Answer.{Answer, agreeing, refusal_status, says, shallow_told}
 use Rattle.file_commands.specs.Arguments.{fuel_of, most_links, most_port, most_rounds, most_seed, most_slice, positive, positive_within}
 use Rattle.file_commands.specs.FueledRoles.{FueledRole}
-use Rattle.file_commands.specs.Halting.{Finds, FindsLines, Found, GoesOn, GoesOnFor, HaltCause, HaltsAs, InHand, JudgementCause, MayHalt, MayHaltJudging, TellsLines, WithoutFiles, ending_status, halt_line, of_verdict}
+use Rattle.file_commands.specs.Halting.{Finds, FindsLines, Found, GoesOn, GoesOnFor, HaltCause, HaltsAs, InHand, JudgementCause, MayHalt, MayHaltJudging, TellsLines, WithoutFiles, ending_status, halt_line}
+use Rattle.file_commands.specs.VerdictHalts.{of_verdict}
 use Rattle.file_commands.specs.Reporting.{IsToldOf, Reports, ReportsAgreement, ReportsProof}
 use Rattle.file_commands.specs.RoleCalls.{program_called, result_called}
 use Rattle.file_commands.specs.declared.report.Halt.{Halt}

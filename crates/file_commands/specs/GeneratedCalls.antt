@@ -1,6 +1,6 @@
 -- Workloads on a program, as the code holds them.
 use Rattle.std.specs.Prelude.{◌<◌}
-use Rattle.core_terms.specs.Roles.{IsRole}
+use Rattle.core_terms.specs.RoleTypes.{IsRole}
 use Rattle.core_terms.specs.Terms.{Program, Query, Update}
 use Rattle.core_terms.specs.Types.{IntTy, PairTy, Ty}
 use Rattle.workloads.specs.declared.workload.Workload.{Workload}

@@ -4,7 +4,6 @@ use Rattle.std.specs.List.{concat}
 use Rattle.lam_outside.specs.Causes.{Rose}
 use Rattle.printed_syntax.specs.LiteralAnswers.{LiteralFault}
 use Rattle.core_terms.specs.declared.fault.Fault.TheVariants as literal_fault
-use Rattle.printed_syntax.specs.declared.fault.LiteralKind.TheVariants.{Mismatch}
 use Rattle.ask_script.specs.declared.script.ScriptFault.{ScriptFault}
 use Rattle.ask_script.specs.declared.script.ScriptFault.TheVariants as script_fault
 use Rattle.images.specs.declared.fault.ImageFault.{ImageFault}
@@ -17,15 +16,12 @@ use Rattle.printed_lines.specs.declared.refusal.ImageKind.TheVariants as kind
 use Rattle.printed_lines.specs.declared.refusal.InputFault.TheVariants as input_fault
 use Rattle.printed_lines.specs.declared.refusal.MirrorKind.TheVariants as mirror_kind
 use Rattle.printed_lines.specs.declared.refusal.Refusal.TheVariants as refusal
-use Rattle.printed_lines.specs.declared.refusal.Rejection.TheVariants as rejection
 use Rattle.object_writer.specs.declared.fault.WriteFault.{WriteFault}
 use Rattle.object_writer.specs.declared.fault.WriteFault.TheVariants as write_fault
 use Rattle.piece_mirror.specs.declared.fault.MirrorFault.{MirrorFault}
 use Rattle.piece_mirror.specs.declared.fault.MirrorFault.TheVariants as mirror_fault
 use Rattle.collision_audit.specs.declared.audited.AuditFault.{AuditFault}
 use Rattle.collision_audit.specs.declared.audited.AuditFault.TheVariants as audit_fault
-use Rattle.verifier_mode.specs.declared.verdict.Verdict.{Verdict}
-use Rattle.verifier_mode.specs.declared.verdict.Verdict.TheVariants as verdict
 use Rattle.file_commands.specs.Answer.{Answer, says, refusal_status}
 use Rattle.file_commands.specs.declared.programs.ProgramFault.{ProgramFault}
 use Rattle.file_commands.specs.declared.programs.ProgramFault.TheVariants as program_fault
@@ -108,13 +104,6 @@ of_mirror_fault (mirror_fault.BadField offset) = Refused (refusal.Input (input_f
 of_mirror_fault (mirror_fault.Leftover bytes) = Refused (refusal.Input (input_fault.Mirror (mirror_kind.Leftover bytes)))
 of_mirror_fault mirror_fault.TooLong = Refused (refusal.Input (input_fault.TooLong argument.Out))
 of_mirror_fault mirror_fault.NoMemory = NoMemory
-
-abbrev pub of_verdict : Verdict → Halt
-of_verdict (verdict.Rejected cause) = Refused (refusal.Proof (rejection.Cause cause))
-of_verdict (verdict.BadState offset) = Refused (refusal.Input (input_fault.State offset))
-of_verdict (verdict.BadArgument offset) = Refused (refusal.Input (input_fault.Literal Mismatch offset))
-of_verdict verdict.ReadFault = ReadFault
-of_verdict verdict.NoMemory = NoMemory
 
 abbrev pub of_audit_fault : AuditFault → Halt
 of_audit_fault audit_fault.ReadFault = ReadFault

@@ -38,3 +38,4 @@ pub mod TextPrograms
 pub mod TrueFetches
 pub mod TrueLines
 pub mod VerdictLaws
+pub mod VerdictHalts

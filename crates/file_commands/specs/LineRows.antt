@@ -22,11 +22,11 @@ use Rattle.sha2.specs.Sha256.{sha256}
 use Rattle.file_commands.specs.Answer.{accepted_answer, callee_of}
 use Rattle.file_commands.specs.Arguments.{fuel_of}
 use Rattle.file_commands.specs.Ending.{Outside}
-use Rattle.file_commands.specs.FilePrograms.{longest_program, program_of_file}
+use Rattle.file_commands.specs.FilePrograms.{longest_program, program_of_file, IsOfTextOrObject}
 use Rattle.file_commands.specs.FueledRoles.{FueledRole}
 use Rattle.file_commands.specs.NamedCalls.{named_program}
 use Rattle.file_commands.specs.RoleCalls.{is_called, kind_called, passed_literal, program_called, result_called}
-use Rattle.file_commands.specs.SoundPrograms.{GivesSound, IsOfDeclared, IsOfTextOrObject, IsOneOfTwo, IsOutcome, IsSound}
+use Rattle.file_commands.specs.SoundPrograms.{GivesSound, IsOfDeclared, IsOneOfTwo, IsOutcome, IsSound}
 use Rattle.file_commands.specs.TextPrograms.{FileProgram, IsProgram, program_of_text, types_text_of_text}
 use Rattle.file_commands.specs.TrueLines.{CallsVerify, IsTrueLine, TellsOutcome, words_of}
 use Rattle.file_commands.specs.declared.status.Status.TheVariants.{Done, Usage, Trap, OutOfFuel, Rejected, ProgramRefused, InputRefused, ReadFault, WriteFault, NoMemory, Collision}

@@ -5,7 +5,7 @@ use Rattle.core_terms.specs.declared.byte_string.ByteString.{ByteString as Spell
 use Rattle.ideal_meaning.specs.Ideal as ideal
 use Rattle.printed_lines.specs.Lines.{proof_line}
 use Rattle.prover_mode.specs.declared.proving.Proved.{Proved}
-use Rattle.mode_vm.specs.StateCalls.{SpellsOutcome}
+use Rattle.ideal_meaning.specs.SpelledOutcomes.{SpellsOutcome}
 use Rattle.file_commands.specs.Answer.{agreeing, says, shallow_told}
 use Rattle.file_commands.specs.FueledRoles.{FueledRole}
 use Rattle.file_commands.specs.Halting.{ending_status}

@@ -1,11 +1,10 @@
 -- The programs of texts, and those of accepted objects, are well-typed.
-use Rattle.std.specs.Prelude.{◌≡◌, ◌≤◌, ℕ, true, List, length}
+use Rattle.std.specs.Prelude.{◌≡◌, ℕ, true, List}
 use Rattle.core_terms.specs.ProgramFormats.{format_with}
 use Rattle.core_terms.specs.Formats as meant
 use Rattle.core_terms.specs.Terms.{Program}
 use Rattle.core_terms.specs.Typing.{is_typed, is_shaped}
 use Rattle.core_terms.specs.declared.format.Format.{Format}
-use Rattle.file_commands.specs.FilePrograms.{longest_program, program_of_file}
 use Rattle.file_commands.specs.TextPrograms.{FileProgram, IsProgram, program_of_text, types_text_of_text}
 use Rattle.file_commands.specs.declared.status.Status.{Status}
 use Rattle.file_commands.specs.declared.status.Status.TheVariants.{Done, Trap, OutOfFuel}
@@ -19,12 +18,6 @@ pub record IsSound (P : Program) : Type 0 where
   pub typed : is_typed P ≡ true
   pub shaped : is_shaped P ≡ true
   pub format : IsOneOfTwo P.format
-
--- the program is that of a text, or of an accepted object, which is no longer than it may be
-pub record IsOfTextOrObject (P : Program) : Type 0 where
-  pub bytes : List ℕ
-  pub fits : length bytes ≤ longest_program bytes
-  pub program : program_of_file bytes ≡ IsProgram P
 
 -- the program is that of a text whose type declarations are printed as this one
 abbrev pub IsOfDeclared : List ℕ → Program → Type 0

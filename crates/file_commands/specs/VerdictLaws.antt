@@ -1,7 +1,7 @@
 -- The law of the verdicts that `verify` tells.
 use Rattle.std.specs.Prelude.{◌≡◌, ℕ, List}
 use Rattle.core_terms.specs.Reading.{Good}
-use Rattle.core_terms.specs.Roles.{ReadsState}
+use Rattle.core_terms.specs.RoleTypes.{ReadsState}
 use Rattle.core_terms.specs.Spelling.{spelling}
 use Rattle.core_terms.specs.Values.{Value}
 use Rattle.printed_syntax.specs.Literals.{IsValue}

@@ -3,7 +3,7 @@ ghost use Rattle.std.specs.Prelude.{◌≡◌, IfOk, Option};
 ghost use Rattle.std.specs.Option.{ForSome};
 ghost use Rattle.lam_outside.specs.Told.{Contents};
 ghost use Rattle.core_terms.specs.Programs.{meaning, types_of};
-ghost use Rattle.core_terms.specs.Roles.{IsPlain};
+ghost use Rattle.core_terms.specs.RoleTypes.{IsPlain};
 ghost use Rattle.core_terms.specs.TypeTables.{type_at};
 ghost use Rattle.value_store.specs.Markings.{HasLimit};
 ghost use Rattle.value_store.specs.Standing.{Keeps, StandsFor};

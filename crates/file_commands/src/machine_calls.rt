@@ -13,7 +13,7 @@ ghost use Rattle.file_commands.specs.Reaching.{FaultsAt, FaultsAtReached};
 ghost use Rattle.file_commands.specs.ReadPrograms.{named_of};
 ghost use Rattle.file_commands.specs.RoleCalls.{EndedRole, ended_with};
 ghost use Rattle.file_commands.specs.RolesCalled.{CallsOnStates, HasEnded, IsCalled, IsEnded, role_of};
-ghost use Rattle.file_commands.specs.SoundPrograms.{IsOfTextOrObject};
+ghost use Rattle.file_commands.specs.FilePrograms.{IsOfTextOrObject};
 
 use crate::Halt;
 use crate::ideal_calls::{IdealCall, put_argument, read_named_call};

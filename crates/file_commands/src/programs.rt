@@ -7,10 +7,10 @@ ghost use Rattle.core_terms.specs.Programs.{constructor_names, meaning};
 ghost use Rattle.core_terms.specs.TypeNames.{all_constructor_names};
 ghost use Rattle.file_commands.specs.Reaching.{FaultsAt};
 ghost use Rattle.file_commands.specs.Answer.{with_declared_file, with_program_bytes, with_program_file};
-ghost use Rattle.file_commands.specs.FilePrograms.{begins_as_object, constructor_names_of_file, longest_program, program_of_file};
+ghost use Rattle.file_commands.specs.FilePrograms.{begins_as_object, constructor_names_of_file, longest_program, program_of_file, IsOfTextOrObject};
 ghost use Rattle.file_commands.specs.Halting.{GoesOn, HaltCause};
 ghost use Rattle.file_commands.specs.ReadPrograms.{ReadsProgram, declared_of, named_of};
-ghost use Rattle.file_commands.specs.SoundPrograms.{IsOfDeclared, IsOfTextOrObject};
+ghost use Rattle.file_commands.specs.SoundPrograms.{IsOfDeclared};
 ghost use Rattle.file_commands.specs.TextPrograms.{constructor_names_of_text, constructors_of_text, program_of_text, types_text_of_text};
 
 use crate::Halt;

@@ -7,7 +7,7 @@ ghost use Rattle.core_terms.specs.Programs.{meaning};
 ghost use Rattle.code_gen.specs.Programs.{program_in};
 ghost use Rattle.ideal_meaning.specs.Ideal as meant;
 ghost use Rattle.verifier_mode.specs.Verdicts.{Answers, IsTold, VerdictCause};
-ghost use Rattle.mode_vm.specs.StateCalls.{SpellsOutcome};
+ghost use Rattle.ideal_meaning.specs.SpelledOutcomes.{SpellsOutcome};
 ghost use Rattle.file_commands.specs.Reaching.{FaultsAtReached, ReachedAt};
 ghost use Rattle.file_commands.specs.Answer.{accepted_answer, answer_with, callee_of, role_verdict, says, shallow_told, spelling_stored, verified_answer};
 ghost use Rattle.file_commands.specs.Ending.{EndsAs, outside};

@@ -2,7 +2,7 @@
 ghost use Rattle.std.specs.Prelude.{◌≡◌, IfOk, codes};
 ghost use Rattle.core_terms.specs.Programs.{meaning, types_of};
 ghost use Rattle.core_terms.specs.RoleViews.{role_kind_of};
-ghost use Rattle.core_terms.specs.Roles.{IsRole};
+ghost use Rattle.core_terms.specs.RoleTypes.{IsRole};
 ghost use Rattle.core_terms.specs.Terms as tree;
 ghost use Rattle.core_terms.specs.TypeTables.{type_at};
 ghost use Rattle.core_terms.specs.Types.{IntTy, PairTy, Ty};

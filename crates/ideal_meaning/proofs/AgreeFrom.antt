@@ -5,7 +5,8 @@ use Rattle.core_terms.specs.Formats.{Hash, IsHash, IsFormat}
 use Rattle.core_terms.specs.Values.{Value, Values, IsIdeal, AreIdeal, AuthWithinAll}
 use Rattle.core_terms.specs.Instructions.{Instruction}
 use Rattle.core_terms.specs.Bodies.{code_at}
-use Rattle.core_terms.specs.Terms.{Program, function_at, coded, body_of, IsTyped, IsTypedAs}
+use Rattle.core_terms.specs.Terms.{Program, function_at, coded, body_of}
+use Rattle.core_terms.specs.TypingRules.{IsTyped, IsTypedAs}
 use Rattle.core_terms.specs.Projection.{projection, projections, AllFit}
 use Rattle.ideal_meaning.specs.Called.{ran, call_as, call_from}
 use Rattle.ideal_meaning.specs.Ideal.{Opened, ideal_mode}

@@ -3,7 +3,8 @@ use Rattle.std.proofs.Common.{◌≡◌, ◌⊎◌, inl, inr, ℕ, zero, suc, Li
 use Rattle.core_terms.specs.Types.{Ty}
 use Rattle.core_terms.specs.Formats.{Hash, IsFormat}
 use Rattle.core_terms.specs.Values.{Value, Values, IsIdeal, AreIdeal, AuthWithinAll}
-use Rattle.core_terms.specs.Terms.{Function, no_function, Program, function_at, HasType, IsWrittenWell}
+use Rattle.core_terms.specs.Terms.{Function, no_function, Program, function_at}
+use Rattle.core_terms.specs.TypingRules.{HasType, IsWrittenWell}
 use Rattle.core_terms.specs.Projection.{projection, projections, AllFit}
 use Rattle.ideal_meaning.specs.Run.{Run, Gives, Ends, call}
 use Rattle.ideal_meaning.specs.Ideal.{Opened, ideal_mode}

@@ -6,8 +6,9 @@ use Rattle.core_terms.specs.Formats.{Hash, IsHash, IsFormat}
 use Rattle.core_terms.specs.Values.{Value, Values, IsIdeal, AreIdeal, AuthWithin, AuthWithinAll}
 use Rattle.core_terms.specs.Spelling.{spelling}
 use Rattle.core_terms.specs.Reading.{Read, Good, BadAt}
-use Rattle.core_terms.specs.Terms.{Kind, Program, function_at, IsTyped}
-use Rattle.core_terms.specs.Roles.{role_result, IsRole, ReadsState}
+use Rattle.core_terms.specs.Terms.{Kind, Program, function_at}
+use Rattle.core_terms.specs.TypingRules.{IsTyped}
+use Rattle.core_terms.specs.RoleTypes.{role_result, IsRole, ReadsState}
 use Rattle.core_terms.specs.Projection.{projection, projections, Fits, AllFit, read_at}
 use Rattle.ideal_meaning.specs.Run.{Run, state_of}
 use Rattle.ideal_meaning.specs.Ideal.{Opened, ideal, outcome, outcome_projection, honest_bytes, honest_pieces, bytes_of}
@@ -15,7 +16,7 @@ use Rattle.ideal_meaning.specs.PieceForms.{as_spelled}
 use Rattle.ideal_meaning.specs.Frames.{Offer, NoMore, Offers, offered, offered_pieces, honest_frames, frame_bytes, proof_file}
 use Rattle.ideal_meaning.specs.Checked.{Taking, Cause, checked, before_all, Verdict, Accepted, with_rest, judge, with_header, with_argument, with_state, on_argument, on_state, verdict_on}
 use Rattle.ideal_meaning.specs.Headline.{call_of, Companion}
-use Rattle.ideal_meaning.specs.Following.{CompanionOfFrames, VerdictIsOnFrames}
+use Rattle.ideal_meaning.specs.FollowingLaws.{CompanionOfFrames, VerdictIsOnFrames}
 use Rattle.ideal_meaning.specs.Agreement.{AllOpenedFit, honest_so_far, OffersOther, IsRefused}
 use Rattle.ideal_meaning.proofs.FramesBack.{last_left, AllShort, frames_back, header_back, behind_header, offer_of, offers_of}
 use Rattle.ideal_meaning.proofs.NewPieces.{after_honest}

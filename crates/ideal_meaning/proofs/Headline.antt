@@ -4,8 +4,9 @@ use Rattle.core_terms.specs.Types.{Ty}
 use Rattle.core_terms.specs.Formats.{Hash, IsHash, IsFormat}
 use Rattle.core_terms.specs.Values.{Value, IsIdeal, AreIdeal}
 use Rattle.core_terms.specs.Spelling.{spelling}
-use Rattle.core_terms.specs.Terms.{Kind, Program, function_at, IsTyped}
-use Rattle.core_terms.specs.Roles.{role_result, IsRole, ReadsState}
+use Rattle.core_terms.specs.Terms.{Kind, Program, function_at}
+use Rattle.core_terms.specs.TypingRules.{IsTyped}
+use Rattle.core_terms.specs.RoleTypes.{role_result, IsRole, ReadsState}
 use Rattle.core_terms.specs.Projection.{projection, projections, Fits, AllFit, read_at}
 use Rattle.ideal_meaning.specs.Ideal.{Outcome, ideal}
 use Rattle.ideal_meaning.specs.PieceForms.{as_spelled}

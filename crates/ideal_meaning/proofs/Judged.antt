@@ -10,7 +10,8 @@ use Rattle.ideal_meaning.specs.Ideal.{Opened, Outcome, Done, Trapped, Out, outco
 use Rattle.ideal_meaning.specs.Frames.{Offer, NoMore, Offers, offered_pieces}
 use Rattle.ideal_meaning.specs.Checked.{Taking, Cause, Accepted, with_rest, judged, IsSplitAt}
 use Rattle.ideal_meaning.specs.PieceForms.{PieceForm}
-use Rattle.ideal_meaning.specs.Agreement.{OffersOtherAs, IsRefusedAs, honest_as, honest_all_as, honest_piece_as}
+use Rattle.ideal_meaning.specs.Agreement.{OffersOtherAs, IsRefusedAs}
+use Rattle.ideal_meaning.specs.HonestPieces.{honest_as, honest_all_as, honest_piece_as}
 use Rattle.ideal_meaning.proofs.FramesBack.{Coherent}
 use Rattle.ideal_meaning.proofs.InHand.{IsHeld}
 use Rattle.ideal_meaning.proofs.Relation.{InStep, Parted, Same, Agree}

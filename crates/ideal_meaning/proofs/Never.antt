@@ -8,7 +8,8 @@ use Rattle.core_terms.specs.Instructions.{Instruction, PushUnit, PushBool, PushI
 use Rattle.core_terms.specs.Bodies.{Body, field_count, code_at}
 use Rattle.ideal_meaning.specs.Execution.{Coded, Ran, Stuck, Held, held, tie, then_code, then_coded, where_some, Next, act, exec, call_code}
 use Rattle.ideal_meaning.specs.CodeTypes.{IsOf, AreOf, Holds, IsMode, Goes, NeverStuck}
-use Rattle.core_terms.specs.Accepted.{Shape, shape, push_types, Fits, IsFine, IsAccepted}
+use Rattle.core_terms.specs.Accepted.{push_types, Fits, IsFine, IsAccepted}
+use Rattle.core_terms.specs.CodeShapes.{Shape, shape}
 use Rattle.ideal_meaning.proofs.CodeArrays.{at_items, holds_fill, holds_get, holds_put}
 use Rattle.ideal_meaning.proofs.Parts.{holds_if, holds_arith, push_all, popped_all, last_dropped, at_bool, at_int, at_text, at_pair, at_con}
 

@@ -5,7 +5,8 @@ use Rattle.std.proofs.lemmas.Nat.{from_be_bytes-to_be_bytes_2, from_be_bytes-to_
 use Rattle.std.proofs.lemmas.Option.{slice_get_within}
 use Rattle.std.proofs.Math.Seq.{take-append_seam, drop-append_seam}
 use Rattle.ideal_meaning.specs.Frames.{place_of, frame_at, honest_frames, frame_bytes}
-use Rattle.ideal_meaning.specs.Following.{after_frames, after_new, after_used, after_use, after_within, after_bytes, NewPieceBoundIsEnough, NewPiecesAreReadBack}
+use Rattle.ideal_meaning.specs.Following.{after_frames, after_new, after_used, after_use, after_within, after_bytes}
+use Rattle.ideal_meaning.specs.FollowingLaws.{NewPieceBoundIsEnough, NewPiecesAreReadBack}
 use Rattle.ideal_meaning.proofs.FramesBack.{AllShort, place_found, all_short}
 
 -- What follows a frame is asked for on no more bytes than stand behind its kind.

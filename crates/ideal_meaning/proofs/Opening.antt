@@ -14,7 +14,8 @@ use Rattle.ideal_meaning.specs.Ideal.{Opened}
 use Rattle.ideal_meaning.specs.PieceForms.{PieceForm, as_spelled}
 use Rattle.ideal_meaning.specs.Frames.{Offer, NoMore, Offers, offered_pieces}
 use Rattle.ideal_meaning.specs.Checked.{Taking, Cause, WrongPiece, BadPiece, cause_of, opened, take_as, digest_in}
-use Rattle.ideal_meaning.specs.Agreement.{IsRefusedAs, honest_as, honest_all_as}
+use Rattle.ideal_meaning.specs.Agreement.{IsRefusedAs}
+use Rattle.ideal_meaning.specs.HonestPieces.{honest_as, honest_all_as}
 use Rattle.ideal_meaning.proofs.InHand.{IsHeld}
 use Rattle.ideal_meaning.proofs.Relation.{fit_next, ideal_next, InStep, Agree}
 

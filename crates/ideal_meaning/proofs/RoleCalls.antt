@@ -3,7 +3,8 @@ use Rattle.std.proofs.Common.{◌≡◌, ℕ, zero, suc, false, List, [], ◌∷
 use Rattle.core_terms.specs.Types.{Ty, PairTy, NamedTy, AuthTy, VecTy, Table, fields_at, item_types, OnFields}
 use Rattle.core_terms.specs.Values.{Value, PairV, ConV, ItemsV, Values, AndV, IsIdeal, AreIdeal, AuthWithin, AuthWithinAll}
 use Rattle.core_terms.specs.Terms.{Kind, Inner, Init, Query, Update, no_function, Program, function_at}
-use Rattle.core_terms.specs.Roles.{some_passes, has_auth_within, IsPlain, role_parameters, role_result, ReadsState, IsRole}
+use Rattle.core_terms.specs.Roles.{some_passes, has_auth_within}
+use Rattle.core_terms.specs.RoleTypes.{IsPlain, role_parameters, role_result, ReadsState, IsRole}
 use Rattle.core_terms.proofs.Plain.{first_no, second_no, fields_none, items_plain}
 
 -- a query or update takes the state and an argument

@@ -19,7 +19,8 @@ use Rattle.ideal_meaning.proofs.Simulation.{Both, both_limited, both_arith, both
 use Rattle.core_terms.specs.Instructions.{Instruction, PushUnit, PushBool, PushInt, PushText, Load, Bind, Unbind, Pair, Fst, Snd, Make, Switch, Branch, Jump, Call, Return, Auth, Unauth, ArithOp, CompareOp, TextCompareOp, Cat, Len, Not, VecFill, VecGet, VecPut}
 use Rattle.core_terms.specs.Bodies.{Body, FunctionCode, code_at, field_count}
 use Rattle.ideal_meaning.specs.Execution.{Coded, Ran, Stuck, then_code, then_coded, where_some, Held, held, tie, without_last, popped, Next, act, exec, call_code}
-use Rattle.core_terms.specs.Accepted.{Shape, shape, push_types, Fits, IsFine, IsAccepted}
+use Rattle.core_terms.specs.Accepted.{push_types, Fits, IsFine, IsAccepted}
+use Rattle.core_terms.specs.CodeShapes.{Shape, shape}
 use Rattle.ideal_meaning.proofs.Parts.{last_dropped}
 use Rattle.ideal_meaning.proofs.OnlyAdds.{Adds, adds_exec, adds_call}
 use Rattle.ideal_meaning.proofs.Tied.{push_values, local_tied, join_tied, length_tied, pushed_tied, popped_even, even_held, even_projected, pushed_projected, held_split, held_pushed}

@@ -1,15 +1,17 @@
 -- The relation between the ideal and the checked run, which is behind the headline and its companion.
-use Rattle.std.specs.Prelude.{◌≡◌, ◌≢◌, ◌⊎◌, ℕ, ◌+◌, List, [], ◌∷◌, ◌++◌, length, map}
+use Rattle.std.specs.Prelude.{◌≡◌, ◌≢◌, ◌⊎◌, ℕ, ◌+◌, List, [], ◌∷◌, ◌++◌, length}
 use Rattle.core_terms.specs.Formats.{Hash, IsHash, IsFormat}
 use Rattle.core_terms.specs.Values.{Values, AreIdeal}
-use Rattle.core_terms.specs.Terms.{Program, function_at, IsTyped}
+use Rattle.core_terms.specs.Terms.{Program, function_at}
+use Rattle.core_terms.specs.TypingRules.{IsTyped}
 use Rattle.core_terms.specs.Projection.{digest_at, projection, projections, Fits, AllFit}
 use Rattle.ideal_meaning.specs.Run.{Stop, Traps, IsOut, Rejects, Run, Gives, Ends, Refuses, state_of}
 use Rattle.ideal_meaning.specs.Called.{call_from}
-use Rattle.ideal_meaning.specs.Ideal.{Opened, Piece, ideal_mode, honest_bytes}
+use Rattle.ideal_meaning.specs.Ideal.{Opened, ideal_mode, honest_bytes}
 use Rattle.ideal_meaning.specs.PieceForms.{PieceForm, as_spelled}
 use Rattle.ideal_meaning.specs.Frames.{offered_pieces}
 use Rattle.ideal_meaning.specs.Checked.{Taking, Cause, BadPiece, checked_mode, take_as}
+use Rattle.ideal_meaning.specs.HonestPieces.{honest_all_as, honest_as}
 
 -- a trap or the want of fuel, as the end of a checked run; an ideal run has no causes
 abbrev pub as_checked : Stop ⊥ → Stop Cause
@@ -23,20 +25,10 @@ AllOpenedFit P [] = Unit {0}
 AllOpenedFit P (x ∷ seen) = Fits P x.ty x.value × AllOpenedFit P seen
 
 module _ (hash : Hash) (P : Program) (form : PieceForm) where
-  -- the honest piece of an opened value, in this form, and the honest pieces so far
-  abbrev pub honest_as : Opened → List ℕ
-  honest_as x = form.piece x.ty (honest_bytes hash P x)
-
-  abbrev pub honest_all_as : List Opened → List (List ℕ)
-  honest_all_as seen = map honest_as seen
-
-  abbrev pub honest_piece_as : Opened → Piece
-  honest_piece_as x = record { ty = x.ty; bytes = honest_as x }
-
   -- Between `began` and `w` the verifier took one piece for each opened value, each was the honest one, and it was read: so each of
   -- these values is within the limits.
   pub record TookHonestAs (began : Taking) (seen : List Opened) (w : Taking) : Type 0 where
-    pub pieces : offered_pieces began.more ≡ honest_all_as seen ++ offered_pieces w.more
+    pub pieces : offered_pieces began.more ≡ honest_all_as hash P form seen ++ offered_pieces w.more
     pub place : w.place ≡ began.place + length seen
     pub fit : AllOpenedFit P seen
 
@@ -45,8 +37,8 @@ module _ (hash : Hash) (P : Program) (form : PieceForm) where
     pub found : List ℕ
     pub later : List (List ℕ)
     pub next : offered_pieces w.more ≡ found ∷ later
-    pub differs : found ≢ honest_as x
-    pub one_digest : form.digest x.ty found ≡ form.digest x.ty (honest_as x)
+    pub differs : found ≢ honest_as hash P form x
+    pub one_digest : form.digest x.ty found ≡ form.digest x.ty (honest_as hash P form x)
 
   -- The checked run is rejected where x is opened: it holds the digest of the honest piece, and the next piece is refused for this
   -- cause. Where the next piece is the honest one, that is since x isn't within the limits, and the cause is that the piece is no
@@ -57,7 +49,7 @@ module _ (hash : Hash) (P : Program) (form : PieceForm) where
     pub left : Taking
     pub is : checked ≡ Ends (Rejects cause) fuel left
     pub refused : take_as hash P form x.ty (digest_at hash P x.ty (honest_bytes hash P x)) w.place w.more w ≡ Refuses cause left
-    pub only : (later : List (List ℕ)) → offered_pieces w.more ≡ honest_as x ∷ later
+    pub only : (later : List (List ℕ)) → offered_pieces w.more ≡ honest_as hash P form x ∷ later
         → (offset : ℕ) × (cause ≡ BadPiece w.place offset) × (Fits P x.ty x.value → ⊥)
 
   -- Up to the opening of x all pieces were honest, and there the runs part.

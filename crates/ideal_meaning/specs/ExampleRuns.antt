@@ -6,7 +6,8 @@ use Rattle.core_terms.specs.Values.{Value, UnitV, BoolV, IntV, TextV, PairV, Dig
 use Rattle.core_terms.specs.Terms.{Expression, UnitE, IntE, LocalE, PairE, ArithE, LetE, Query, Update}
 use Rattle.core_terms.specs.declared.term.Arith.TheVariants.{Sub, Div, Rem}
 use Rattle.core_terms.specs.Typing.{is_typed}
-use Rattle.core_terms.specs.Roles.{IsPlain, IsRole, role_named}
+use Rattle.core_terms.specs.Roles.{role_named}
+use Rattle.core_terms.specs.RoleTypes.{IsPlain, IsRole}
 use Rattle.core_terms.specs.Projection.{projection}
 use Rattle.ideal_meaning.specs.Run.{Run, Gives, Ends, Traps, Overflow, DivZero, TooBig, fuel_of}
 use Rattle.ideal_meaning.specs.Ideal.{Opened, ideal, outcome, Done, Out, honest_pieces, bytes_of}

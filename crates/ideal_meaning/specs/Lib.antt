@@ -29,3 +29,8 @@ pub mod ToldRows
 pub mod Library
 pub mod LibraryRuns
 pub mod ArrayRuns
+pub mod SpelledOutcomes
+pub mod RunFrames
+pub mod FetchLaws
+pub mod FollowingLaws
+pub mod HonestPieces

@@ -4,7 +4,8 @@ use Rattle.core_terms.specs.Types.{UnitTy, IntTy, PairTy}
 use Rattle.core_terms.specs.Values.{Value, UnitV, IntV, PairV, ConV, NoV}
 use Rattle.core_terms.specs.Terms.{Query, Update, Program}
 use Rattle.core_terms.specs.Typing.{is_typed}
-use Rattle.core_terms.specs.Roles.{IsPlain, IsRole, role_named}
+use Rattle.core_terms.specs.Roles.{role_named}
+use Rattle.core_terms.specs.RoleTypes.{IsPlain, IsRole}
 use Rattle.ideal_meaning.specs.Run.{Run, Gives, Ends, first_in, state_of}
 use Rattle.ideal_meaning.specs.Ideal.{Opened, Outcome, Done, ideal, outcome}
 use Rattle.ideal_meaning.specs.Headline.{call_of}

@@ -15,7 +15,8 @@ use Rattle.value_store.specs.Nodes.{Held, InnerHeld, BothHeld, OnlyHeld, Form, U
 use Rattle.value_store.specs.Standing.{AllStandFor, Holds, IdealNodes, StandsFor}
 use Rattle.value_store.specs.declared.node.Ref.{Ref}
 use Rattle.value_store.proofs.StandingNodes.{there_stands}
-use Rattle.images.specs.AuthOrders.{AreInOrder, inner_of, inners}
+use Rattle.images.specs.AuthOrders.{inner_of, inners}
+use Rattle.images.specs.AuthOrdersInCode.{AreInOrder}
 use Rattle.images.specs.FormTypes.{form_told, id_in, inner_told, no_type}
 use Rattle.images.specs.Images.{Entry, entry}
 use Rattle.images.specs.KeptNodes.{AllHave, AreKeptFor, StandAs, StandsAs}

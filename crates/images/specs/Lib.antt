@@ -23,3 +23,4 @@ pub mod Frames
 pub mod ImageLaws
 pub mod ArrayRows
 pub mod AuthOrders
+pub mod AuthOrdersInCode

@@ -2,7 +2,8 @@
 ghost use Rattle.std.specs.Prelude.{◌≡◌, ◌++◌, ◌∷◌, [], IfOk, OnOk};
 ghost use Rattle.core_terms.specs.ProgramTypes.{types_meaning};
 ghost use Rattle.core_terms.specs.Values.{Value};
-ghost use Rattle.images.specs.AuthOrders.{AreInOrder, auth_entries};
+ghost use Rattle.images.specs.AuthOrders.{auth_entries};
+ghost use Rattle.images.specs.AuthOrdersInCode.{AreInOrder};
 ghost use Rattle.images.specs.FormTypes.{form_told, id_in, inner_told, items_told};
 ghost use Rattle.images.specs.LoadedRoots.{IsStateAt};
 ghost use Rattle.images.specs.Reached.{OrderReached};

@@ -10,7 +10,8 @@ use Rattle.lam_outside.specs.Told.{Contents}
 use Rattle.session_meaning.specs.Server.{Shared}
 use Rattle.version_journal.specs.Gates.{AtLast, ForTold}
 use Rattle.version_journal.specs.Journals.{Faulty, NoImage, journal_of}
-use Rattle.version_journal.specs.Openings.{IsOpened, IsSynced, OnlySynced, OpensTo, Stands, TellsImage, TellsJournal}
+use Rattle.version_journal.specs.Openings.{IsOpened, OnlySynced, OpensTo, Stands, TellsImage, TellsJournal}
+use Rattle.version_journal.specs.Synced.{IsSynced}
 use Rattle.version_journal.specs.declared.fault.DiskCount.TheVariants.{Reads, Writes}
 use Rattle.version_journal.specs.declared.fault.JournalFault.{JournalFault}
 use Rattle.version_journal.specs.declared.fault.JournalFault.TheVariants as fault

@@ -4,7 +4,7 @@ use Rattle.lam_outside.specs.Disks.{Chooses, Moments, settled}
 use Rattle.lam_outside.specs.Told.{Contents}
 use Rattle.file_commands.specs.Ending.{Outside}
 use Rattle.version_journal.specs.Gates.{ForTold}
-use Rattle.version_journal.specs.Openings.{IsSynced}
+use Rattle.version_journal.specs.Synced.{IsSynced}
 
 -- What a disk tells: what each name holds as it reads, and the chosen file at each moment since it was chosen; and its counts of faults.
 pub record DiskSeen : Type 0 where

@@ -3,7 +3,7 @@ use Rattle.std.specs.Prelude.{◌≡◌, ◌⊎◌, ℕ, List, [], ◌∷◌, Op
 use Rattle.std.specs.Option.{ForSome}
 use Rattle.lam_outside.specs.Disks.{Moments}
 use Rattle.lam_outside.specs.Told.{Contents}
-use Rattle.version_journal.specs.AtGates.{HasBytes, HasNone}
+use Rattle.version_journal.specs.KeptBytes.{HasBytes, HasNone}
 use Rattle.version_journal.specs.Gates.{AtLast, IsKept}
 use Rattle.version_journal.specs.Journals.{journal_front}
 use Rattle.file_commands.specs.Answer.{Answer, Founding, with_founding}

@@ -6,7 +6,8 @@ use Rattle.lam_outside.specs.Disks.{DiskFile}
 use Rattle.session_meaning.specs.Server.{Shared}
 use Rattle.version_journal.specs.Gates.{AtLast, IsKept}
 use Rattle.version_journal.specs.Journals.{Holds, journal_front, journal_of}
-use Rattle.version_journal.specs.Openings.{IsSynced, Stands}
+use Rattle.version_journal.specs.Openings.{Stands}
+use Rattle.version_journal.specs.Synced.{IsSynced}
 use Rattle.version_journal.specs.declared.opening.Opened.{Opened}
 use Rattle.file_commands.specs.Answer.{Answer}
 use Rattle.file_commands.specs.FueledRoles.{DigestedProgram}

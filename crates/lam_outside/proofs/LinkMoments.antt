@@ -4,7 +4,8 @@ use Rattle.std.specs.Prelude.{option_map}
 use Rattle.std.specs.List.{All}
 use Rattle.std.proofs.lemmas.List.{take-append-le, take_all, map-append}
 use Rattle.std.proofs.lemmas.Grind.{common_steps}
-use Rattle.lam_outside.specs.Moments.{Moment, AddsRead}
+use Rattle.lam_outside.specs.Moments.{Moment}
+use Rattle.lam_outside.specs.LinkSteps.{AddsRead}
 use Rattle.lam_outside.specs.LinkReads.{IsSentBy, NotesAt, moment_of, reads_told}
 use Rattle.lam_outside.specs.declared.mem_link.LinkRead.{LinkRead}
 

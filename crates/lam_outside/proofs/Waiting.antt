@@ -5,7 +5,8 @@ use Rattle.std.proofs.Math.Seq.{drop-append_seam}
 use Rattle.std.specs.List.{AllByRecursion}
 use Rattle.std.specs.Io.KnownBytes.{prepend_known}
 use Rattle.std.proofs.lemmas.List.{append_assoc, append-nil}
-use Rattle.lam_outside.specs.Moments.{Moment, AddsRead, StoodAtEach, AtEachRead, WaitsWithin}
+use Rattle.lam_outside.specs.Moments.{Moment}
+use Rattle.lam_outside.specs.LinkSteps.{AddsRead, StoodAtEach, AtEachRead, WaitsWithin}
 
 all_append : (Q : Moment → Type 0) (xs ys : List Moment) → AllByRecursion Q xs → AllByRecursion Q ys → AllByRecursion Q (xs ++ ys)
 all_append Q [] ys first more = more

@@ -15,3 +15,6 @@ pub mod Disks
 pub mod MemCalls
 pub mod MemDisks
 pub mod ChosenFiles
+pub mod FileSteps
+pub mod DiskSteps
+pub mod LinkSteps

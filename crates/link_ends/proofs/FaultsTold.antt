@@ -1,7 +1,7 @@
 -- What is told of faults behind links, and behind one more: for what serves links one after another.
 use Rattle.std.proofs.Common.{◌≡◌, ℕ, Bool, true, false, ◌||◌, Ok, Err, refl, subst, ◌∙◌, arith}
 use Rattle.lam_outside.specs.Causes.{Rose}
-use Rattle.link_ends.specs.Ends.{LinkCause}
+use Rattle.link_ends.specs.EndCauses.{LinkCause}
 use Rattle.link_ends.specs.Halts.{HaltCause}
 use Rattle.link_ends.specs.declared.halt.Halt.{Halt}
 use Rattle.link_ends.specs.declared.halt.Halt.TheVariants as halt

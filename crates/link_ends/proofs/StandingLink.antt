@@ -4,7 +4,8 @@ use Rattle.std.specs.List.{AllByRecursion}
 use Rattle.std.specs.Option.{ForSome}
 use Rattle.std.specs.Io.KnownBytes.{append_known}
 use Rattle.lam_outside.specs.Links.{Linked, links_so_far, nothing_yet}
-use Rattle.lam_outside.specs.Moments.{AtEachRead, Moment}
+use Rattle.lam_outside.specs.Moments.{Moment}
+use Rattle.lam_outside.specs.LinkSteps.{AtEachRead}
 
 -- The links are those that ended and the one that stands, and all that it tells is known.
 pub record IsTold (ended : Option (List Linked)) (port : ℕ) (given left sent : Option (List ℕ)) (reads : Option (List Moment)) (after : List Linked) : Type 0 where

@@ -2,3 +2,4 @@ pub mod Halts
 pub mod Ends
 pub mod MoreLinks
 pub mod Rows
+pub mod EndCauses

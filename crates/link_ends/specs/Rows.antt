@@ -4,7 +4,8 @@ use Rattle.std.proofs.Common.{inl, inr}
 use Rattle.lam_outside.specs.Causes.{Rose}
 use Rattle.lam_outside.specs.Links.{Linked}
 use Rattle.wire_form.specs.declared.message.WriteStop.TheVariants as write
-use Rattle.link_ends.specs.Ends.{EndCause, LinkCause, ServingCause, is_fault}
+use Rattle.link_ends.specs.Ends.{is_fault}
+use Rattle.link_ends.specs.EndCauses.{EndCause, LinkCause, ServingCause}
 use Rattle.link_ends.specs.Halts.{HaltCause, halt_of}
 use Rattle.link_ends.specs.MoreLinks.{AreMore, Takes, bytes_on}
 use Rattle.link_ends.specs.declared.end.ConnectionEnd.TheVariants as connection

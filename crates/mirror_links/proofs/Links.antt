@@ -5,7 +5,8 @@ use Rattle.std.proofs.lemmas.List.{append_cancel_right}
 use Rattle.std.specs.Io.KnownBytes.{prepend_known}
 use Rattle.lam_outside.specs.Causes.{Rose}
 use Rattle.lam_outside.specs.Links.{Linked, links_so_far, IsMade}
-use Rattle.lam_outside.specs.Moments.{AtEachRead, Moment}
+use Rattle.lam_outside.specs.Moments.{Moment}
+use Rattle.lam_outside.specs.LinkSteps.{AtEachRead}
 use Rattle.ideal_meaning.specs.Fetched.{Got}
 use Rattle.wire_form.specs.MovedBytes.{Moves}
 use Rattle.link_ends.specs.declared.end.ConnectionEnd.{ConnectionEnd}

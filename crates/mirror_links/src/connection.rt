@@ -1,8 +1,8 @@
 // A connection: a mirror on one link.
 ghost use Rattle.std.specs.Prelude.{◌≡◌, IfOk, option_map};
 ghost use Rattle.std.specs.Option.{ForSome};
-ghost use Rattle.lam_outside.specs.Moments.{AtEachRead};
-ghost use Rattle.link_ends.specs.Ends.{EndCause};
+ghost use Rattle.lam_outside.specs.LinkSteps.{AtEachRead};
+ghost use Rattle.link_ends.specs.EndCauses.{EndCause};
 ghost use Rattle.link_ends.specs.Halts.{HaltCause};
 ghost use Rattle.mirror_links.specs.Prompt.{IsPrompt};
 ghost use Rattle.mirror_links.specs.Steps.{AnswersMessage, AsksNext, Ends, SendsFront};

@@ -2,7 +2,7 @@
 ghost use Rattle.std.specs.Prelude.{◌≡◌};
 ghost use Rattle.std.specs.Option.{ForSome};
 ghost use Rattle.lam_outside.specs.Links.{links_so_far};
-ghost use Rattle.link_ends.specs.Ends.{LinkCause, ServingCause};
+ghost use Rattle.link_ends.specs.EndCauses.{LinkCause, ServingCause};
 ghost use Rattle.link_ends.specs.Halts.{HaltCause};
 ghost use Rattle.mirror_links.specs.AnsweredLinks.{AnswersLinks};
 ghost use Rattle.mirror_links.specs.Steps.{AnswersNext};

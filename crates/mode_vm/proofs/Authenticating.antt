@@ -5,7 +5,7 @@ use Rattle.core_terms.specs.Values.{Value, Values, NoV, AndV}
 use Rattle.core_terms.specs.Terms.{Program}
 use Rattle.core_terms.specs.Instructions.{Auth}
 use Rattle.core_terms.specs.Bodies.{Body}
-use Rattle.code_gen.specs.Code.{generated}
+use Rattle.core_terms.specs.GeneratedCode.{generated}
 use Rattle.ideal_meaning.specs.Execution.{tie, act}
 use Rattle.core_terms.specs.Accepted.{Fits}
 use Rattle.value_store.specs.Nodes.{Node}

@@ -6,7 +6,7 @@ use Rattle.core_terms.specs.Terms.{Program}
 use Rattle.ideal_meaning.specs.Run.{join}
 use Rattle.core_terms.specs.Instructions.{Bind, Unbind}
 use Rattle.core_terms.specs.Bodies.{Body}
-use Rattle.code_gen.specs.Code.{generated}
+use Rattle.core_terms.specs.GeneratedCode.{generated}
 use Rattle.ideal_meaning.specs.Execution.{tie, act, where_some, without_last}
 use Rattle.core_terms.specs.Accepted.{Fits}
 use Rattle.ideal_meaning.proofs.Parts.{last_dropped}

@@ -7,7 +7,7 @@ use Rattle.core_terms.specs.declared.outcome.Trap.{Trap}
 use Rattle.ideal_meaning.specs.Run.{Run, Gives, bool_in}
 use Rattle.core_terms.specs.Instructions.{Branch, Not}
 use Rattle.core_terms.specs.Bodies.{Body, code_at}
-use Rattle.code_gen.specs.Code.{generated}
+use Rattle.core_terms.specs.GeneratedCode.{generated}
 use Rattle.ideal_meaning.specs.Execution.{held, tie, act}
 use Rattle.core_terms.specs.Accepted.{Fits}
 use Rattle.value_store.specs.Nodes.{Node}

@@ -3,13 +3,15 @@ use Rattle.std.proofs.Common.{◌≡◌, ℕ, zero, suc, pred, ◌+◌, ◌<◌,
 use Rattle.std.proofs.lemmas.List.{reverse-append, length-reverse}
 use Rattle.core_terms.specs.Types.{Ty, Table}
 use Rattle.core_terms.specs.Values.{Values, NoV, AndV}
-use Rattle.core_terms.specs.Terms.{Program, IsTyped}
+use Rattle.core_terms.specs.Terms.{Program}
+use Rattle.core_terms.specs.TypingRules.{IsTyped}
 use Rattle.ideal_meaning.specs.Run.{join}
 use Rattle.core_terms.specs.Instructions.{Call}
 use Rattle.core_terms.specs.Bodies.{Body, code_at}
-use Rattle.code_gen.specs.Code.{generated}
+use Rattle.core_terms.specs.GeneratedCode.{generated}
 use Rattle.ideal_meaning.specs.Execution.{Coded, held, tie, Held, popped, then_coded, exec, call_code}
-use Rattle.core_terms.specs.Accepted.{Shape, shape, push_types, IsFine}
+use Rattle.core_terms.specs.Accepted.{push_types, IsFine}
+use Rattle.core_terms.specs.CodeShapes.{Shape, shape}
 use Rattle.code_meaning.specs.Steps as steps
 use Rattle.ideal_meaning.proofs.Parts.{push_all}
 use Rattle.code_meaning.proofs.Loop.{then_twice}

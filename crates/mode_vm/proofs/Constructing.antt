@@ -10,7 +10,7 @@ use Rattle.core_terms.specs.declared.program_types.Types.{Types}
 use Rattle.core_terms.specs.declared.outcome.Trap.{Trap}
 use Rattle.ideal_meaning.specs.Run.{limited}
 use Rattle.core_terms.specs.Instructions.{Make}
-use Rattle.code_gen.specs.Code.{generated}
+use Rattle.core_terms.specs.GeneratedCode.{generated}
 use Rattle.core_terms.specs.Bodies.{field_count}
 use Rattle.ideal_meaning.specs.Execution.{Coded as Ends, Held, Next, held, tie, act, popped, then_code}
 use Rattle.core_terms.specs.Accepted.{push_types}

@@ -7,7 +7,7 @@ use Rattle.core_terms.specs.declared.term.Arith.{Arith}
 use Rattle.core_terms.specs.declared.term.Compare.{Compare}
 use Rattle.core_terms.specs.declared.term.TextCompare.{TextCompare}
 use Rattle.core_terms.specs.Instructions.{Instruction, ArithOp, CompareOp, TextCompareOp, Cat, Pair, VecGet}
-use Rattle.code_gen.specs.Code.{generated}
+use Rattle.core_terms.specs.GeneratedCode.{generated}
 use Rattle.value_store.specs.Nodes.{Node}
 use Rattle.value_store.specs.Markings.{Marking, kind_of}
 use Rattle.mode_vm.specs.Machines.{ValueFrame, Before}

@@ -2,7 +2,7 @@
 use Rattle.std.proofs.Common.{◌≡◌, ℕ, suc, zero, ◌+◌, ◌*◌, ◌<◌, ◌≤◌, true, false, List, [], ◌∷◌, length, take, drop, reverse, slice_get, unwrap_or, refl, sym, ap, ap₂, ◌∙◌, subst, arith}
 use Rattle.std.proofs.Math.Nat.{suc-mul}
 use Rattle.core_terms.specs.Bodies.{FunctionCode, code_at, no_function_code}
-use Rattle.code_gen.specs.Code.{generated}
+use Rattle.core_terms.specs.GeneratedCode.{generated}
 use Rattle.mode_vm.specs.declared.frame.Waiting.{Waiting}
 use Rattle.mode_vm.specs.declared.operand.Operand.{Operand}
 use Rattle.core_terms.specs.Types.{Ty}

@@ -6,9 +6,10 @@ use Rattle.core_terms.specs.Values.{Value, UnitV, BoolV, IntV, Values, NoV, AndV
 use Rattle.core_terms.specs.Terms.{Program}
 use Rattle.core_terms.specs.Instructions.{Instruction}
 use Rattle.core_terms.specs.Bodies.{Body, code_at}
-use Rattle.code_gen.specs.Code.{generated}
+use Rattle.core_terms.specs.GeneratedCode.{generated}
 use Rattle.ideal_meaning.specs.Execution.{Coded, tie, act, exec, call_code, Next}
-use Rattle.core_terms.specs.Accepted.{Shape, shape, Fits, IsFine}
+use Rattle.core_terms.specs.Accepted.{Fits, IsFine}
+use Rattle.core_terms.specs.CodeShapes.{Shape, shape}
 use Rattle.code_meaning.proofs.Loop.{jump}
 use Rattle.value_store.specs.Nodes.{Node}
 use Rattle.value_store.specs.Standing.{Kind, Keeps}

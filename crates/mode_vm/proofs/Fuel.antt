@@ -7,7 +7,7 @@ use Rattle.core_terms.specs.Bodies.{Body}
 use Rattle.ideal_meaning.specs.Run.{Mode, fuel_of}
 use Rattle.ideal_meaning.specs.Execution.{Ran, held}
 use Rattle.ideal_meaning.proofs.CodeNesting.{Low, low_coded, low_exec}
-use Rattle.code_gen.specs.Code.{generated}
+use Rattle.core_terms.specs.GeneratedCode.{generated}
 use Rattle.code_meaning.specs.Steps.{Waiting, left_of, rest_of}
 use Rattle.value_store.specs.Markings.{Marking}
 use Rattle.value_store.specs.Nodes.{Node}

@@ -4,8 +4,9 @@ use Rattle.core_terms.specs.Types.{Ty}
 use Rattle.core_terms.specs.Terms.{Program}
 use Rattle.core_terms.specs.Instructions.{Instruction, Jump}
 use Rattle.core_terms.specs.Bodies.{Body, code_at}
-use Rattle.code_gen.specs.Code.{generated}
-use Rattle.core_terms.specs.Accepted.{Shape, IsFine}
+use Rattle.core_terms.specs.GeneratedCode.{generated}
+use Rattle.core_terms.specs.Accepted.{IsFine}
+use Rattle.core_terms.specs.CodeShapes.{Shape}
 use Rattle.value_store.specs.Nodes.{Node}
 use Rattle.value_store.specs.Markings.{Marking}
 use Rattle.mode_vm.specs.Machines.{ValueFrame, Before}

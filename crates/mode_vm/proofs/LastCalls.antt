@@ -4,15 +4,17 @@ use Rattle.std.proofs.lemmas.Bool.{le-leb}
 use Rattle.std.proofs.lemmas.List.{length-map, length-append}
 use Rattle.core_terms.specs.Types.{Ty}
 use Rattle.core_terms.specs.Values.{Value, Values, NoV}
-use Rattle.core_terms.specs.Terms.{Program, IsTyped}
+use Rattle.core_terms.specs.Terms.{Program}
+use Rattle.core_terms.specs.TypingRules.{IsTyped}
 use Rattle.ideal_meaning.specs.Run.{Mode, Gives, Ends}
 use Rattle.core_terms.specs.Instructions.{Instruction, Unbind, Jump, Call, Return}
 use Rattle.core_terms.specs.Bodies.{Body, code_at}
-use Rattle.code_gen.specs.Code.{generated}
+use Rattle.core_terms.specs.GeneratedCode.{generated}
 use Rattle.core_terms.specs.InstructionViews.{instruction_of, instructions_of}
 use Rattle.core_terms.specs.declared.instruction.Instruction.{Instruction as Listed}
 use Rattle.ideal_meaning.specs.Execution.{Coded, Ran, Stuck, Held, held, tie, then_coded, exec, where_some, without_last}
-use Rattle.core_terms.specs.Accepted.{Shape, shape, Fits, IsFine}
+use Rattle.core_terms.specs.Accepted.{Fits, IsFine}
+use Rattle.core_terms.specs.CodeShapes.{Shape, shape}
 use Rattle.code_meaning.specs.Steps as steps
 use Rattle.value_store.specs.Nodes.{Node}
 use Rattle.value_store.specs.Markings.{Marking, kind_of}

@@ -5,9 +5,10 @@ use Rattle.core_terms.specs.Terms.{Program}
 use Rattle.core_terms.specs.declared.outcome.Trap.{Trap}
 use Rattle.core_terms.specs.Instructions.{Instruction}
 use Rattle.core_terms.specs.Bodies.{Body, code_at}
-use Rattle.code_gen.specs.Code.{generated}
+use Rattle.core_terms.specs.GeneratedCode.{generated}
 use Rattle.ideal_meaning.specs.Execution.{then_coded}
-use Rattle.core_terms.specs.Accepted.{Shape, IsFine}
+use Rattle.core_terms.specs.Accepted.{IsFine}
+use Rattle.core_terms.specs.CodeShapes.{Shape}
 use Rattle.code_meaning.specs.Steps as steps
 use Rattle.code_meaning.proofs.CodeRight.{no_more_functions}
 use Rattle.value_store.specs.Nodes.{Node}

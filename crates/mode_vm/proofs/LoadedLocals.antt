@@ -7,7 +7,7 @@ use Rattle.core_terms.specs.declared.outcome.Trap.{Trap}
 use Rattle.ideal_meaning.specs.Run.{Gives}
 use Rattle.core_terms.specs.Instructions.{Load}
 use Rattle.ideal_meaning.specs.Execution.{held, tie, where_some}
-use Rattle.core_terms.specs.Accepted.{shape}
+use Rattle.core_terms.specs.CodeShapes.{shape}
 use Rattle.value_store.specs.Nodes.{Node}
 use Rattle.value_store.specs.Standing.{Kind}
 use Rattle.value_store.specs.Markings.{Marking, kind_of}

@@ -8,7 +8,7 @@ use Rattle.ideal_meaning.specs.Run.{Ends, Mode, Traps, Run}
 use Rattle.ideal_meaning.specs.Told.{trap_told}
 use Rattle.core_terms.specs.Instructions.{Instruction}
 use Rattle.core_terms.specs.Bodies.{Body}
-use Rattle.code_gen.specs.Code.{generated}
+use Rattle.core_terms.specs.GeneratedCode.{generated}
 use Rattle.ideal_meaning.specs.Execution.{Coded, Ran, Held, held, tie, act, exec, Next, then_code}
 use Rattle.value_store.specs.Nodes.{Node}
 use Rattle.value_store.specs.Standing.{Keeps}

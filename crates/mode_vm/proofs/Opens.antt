@@ -6,7 +6,7 @@ use Rattle.core_terms.specs.Terms.{Program}
 use Rattle.ideal_meaning.specs.Run.{Run, Ends, Rejects, Opens, Refuses, with_fuel}
 use Rattle.core_terms.specs.Instructions.{Unauth}
 use Rattle.core_terms.specs.Bodies.{Body}
-use Rattle.code_gen.specs.Code.{generated}
+use Rattle.core_terms.specs.GeneratedCode.{generated}
 use Rattle.ideal_meaning.specs.Execution.{Coded, Ran, held, tie, then_code, then_coded, exec, act}
 use Rattle.core_terms.specs.Accepted.{Fits}
 use Rattle.code_meaning.specs.Steps as steps

@@ -6,7 +6,7 @@ use Rattle.core_terms.specs.Terms.{Program}
 use Rattle.core_terms.specs.declared.outcome.Trap.{Trap}
 use Rattle.ideal_meaning.specs.Run.{Run, Gives, limited, first_in, second_in}
 use Rattle.core_terms.specs.Instructions.{Pair, Fst, Snd}
-use Rattle.code_gen.specs.Code.{generated}
+use Rattle.core_terms.specs.GeneratedCode.{generated}
 use Rattle.value_store.specs.Nodes.{Node}
 use Rattle.value_store.specs.Standing.{Keeps}
 use Rattle.value_store.specs.Markings.{Marking, kind_of}

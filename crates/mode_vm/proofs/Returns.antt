@@ -7,7 +7,7 @@ use Rattle.core_terms.specs.Terms.{Program}
 use Rattle.ideal_meaning.specs.Run.{Gives}
 use Rattle.core_terms.specs.Instructions.{Return}
 use Rattle.core_terms.specs.Bodies.{Body, code_at}
-use Rattle.code_gen.specs.Code.{generated}
+use Rattle.core_terms.specs.GeneratedCode.{generated}
 use Rattle.ideal_meaning.specs.Execution.{Ran, tie, then_coded, exec, act}
 use Rattle.core_terms.specs.Accepted.{IsFine, Fits}
 use Rattle.code_meaning.specs.Steps as steps

@@ -3,7 +3,8 @@ use Rattle.std.proofs.Common.{◌≡◌, ℕ, zero, suc, pred, ◌+◌, ◌*◌,
 use Rattle.std.proofs.Math.Nat.{mul-le-mul}
 use Rattle.core_terms.specs.Types.{Ty}
 use Rattle.core_terms.specs.Values.{Values, NoV, AndV, AreIdeal, AreShallow}
-use Rattle.core_terms.specs.Terms.{Program, IsTyped, function_at}
+use Rattle.core_terms.specs.Terms.{Program, function_at}
+use Rattle.core_terms.specs.TypingRules.{IsTyped}
 use Rattle.core_terms.specs.Projection.{digest_at}
 use Rattle.ideal_meaning.specs.Run.{Gives, Ends}
 use Rattle.ideal_meaning.specs.Called.{call_from}
@@ -11,9 +12,10 @@ use Rattle.ideal_meaning.specs.Ideal.{Opened, ideal_mode}
 use Rattle.ideal_meaning.specs.PieceForms.{as_whole}
 use Rattle.ideal_meaning.specs.Checked.{Cause, Taking, checked_mode, checked_mode_as}
 use Rattle.core_terms.specs.Bodies.{Body, code_at}
-use Rattle.code_gen.specs.Code.{generated}
+use Rattle.core_terms.specs.GeneratedCode.{generated}
 use Rattle.ideal_meaning.specs.Execution.{Coded, Ran, Stuck, then_coded, call_code_from}
-use Rattle.core_terms.specs.Accepted.{Shape, shape, IsFine}
+use Rattle.core_terms.specs.Accepted.{IsFine}
+use Rattle.core_terms.specs.CodeShapes.{Shape, shape}
 use Rattle.ideal_meaning.specs.ModeKinds.{ideal_kind, digest_kind}
 use Rattle.code_meaning.proofs.CodeRight.{right, signature_found, functions_found, generated_accepted}
 use Rattle.ideal_meaning.proofs.ModeLaws.{ideal_laws, checked_laws, fetched_laws, ideals_are, shallows_are}

@@ -4,7 +4,8 @@ use Rattle.core_terms.specs.Formats.{Hash, IsFormat}
 use Rattle.core_terms.specs.Programs.{meaning}
 use Rattle.core_terms.specs.Projection.{digest_at, Fits}
 use Rattle.core_terms.specs.Roles.{argument_type}
-use Rattle.core_terms.specs.Terms.{Program, IsTyped, function_at}
+use Rattle.core_terms.specs.Terms.{Program, function_at}
+use Rattle.core_terms.specs.TypingRules.{IsTyped}
 use Rattle.core_terms.specs.Types.{Ty, UnitTy}
 use Rattle.core_terms.specs.Values.{Value, AuthWithin, IsIdeal}
 use Rattle.core_terms.specs.declared.program.Program.{Program as Coded}

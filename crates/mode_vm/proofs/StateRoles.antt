@@ -4,7 +4,8 @@ use Rattle.std.specs.List.{All}
 use Rattle.std.proofs.lemmas.Option.{get_or_from_slice_get, slice_get-map, slice_get_within}
 use Rattle.core_terms.specs.Programs.{meaning, types_of}
 use Rattle.core_terms.specs.RoleViews.{role_kind_of, role_of}
-use Rattle.core_terms.specs.Roles.{HasRoleShape, ReadsState, program_roles}
+use Rattle.core_terms.specs.Roles.{program_roles}
+use Rattle.core_terms.specs.RoleTypes.{HasRoleShape, ReadsState}
 use Rattle.core_terms.specs.declared.program.Program.{Program}
 use Rattle.core_terms.specs.declared.roles.Role.{Role}
 use Rattle.core_terms.specs.declared.roles.RoleKind.{RoleKind}

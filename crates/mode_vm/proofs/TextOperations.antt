@@ -7,7 +7,7 @@ use Rattle.core_terms.specs.declared.term.TextCompare.{TextCompare}
 use Rattle.core_terms.specs.declared.outcome.Trap.{Trap}
 use Rattle.ideal_meaning.specs.Run.{Run, Gives, limited, text_compare_of, text_in}
 use Rattle.core_terms.specs.Instructions.{TextCompareOp, Cat, Len}
-use Rattle.code_gen.specs.Code.{generated}
+use Rattle.core_terms.specs.GeneratedCode.{generated}
 use Rattle.value_store.specs.Nodes.{Node}
 use Rattle.value_store.specs.Standing.{Keeps}
 use Rattle.value_store.specs.Markings.{Marking, kind_of}

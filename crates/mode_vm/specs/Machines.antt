@@ -6,11 +6,12 @@ use Rattle.core_terms.specs.Terms.{Program, function_at}
 use Rattle.ideal_meaning.specs.Run.{Ends, IsOut}
 use Rattle.core_terms.specs.Instructions.{Instruction, Unbind, Jump, Call, Return, Auth, Unauth}
 use Rattle.core_terms.specs.Bodies.{code_at}
-use Rattle.code_gen.specs.Code.{generated}
+use Rattle.core_terms.specs.GeneratedCode.{generated}
 use Rattle.code_gen.specs.CodeSizes.{code_size}
 use Rattle.ideal_meaning.specs.Execution.{Coded, Ran, tie, then_coded}
 use Rattle.code_meaning.specs.Steps as steps
-use Rattle.core_terms.specs.Accepted.{Shape, shape, IsFine}
+use Rattle.core_terms.specs.Accepted.{IsFine}
+use Rattle.core_terms.specs.CodeShapes.{Shape, shape}
 use Rattle.value_store.specs.Nodes.{Node}
 use Rattle.value_store.specs.Standing.{AllStandFor}
 use Rattle.value_store.specs.Markings.{Marking, kind_of}

@@ -4,7 +4,7 @@ use Rattle.core_terms.specs.Terms.{Program}
 use Rattle.core_terms.specs.declared.outcome.Outcome.{Outcome}
 use Rattle.core_terms.specs.declared.outcome.Outcome.TheVariants.{Done, Trapped, Out}
 use Rattle.core_terms.specs.Bodies.{code_at}
-use Rattle.code_gen.specs.Code.{generated}
+use Rattle.core_terms.specs.GeneratedCode.{generated}
 use Rattle.core_terms.specs.Instructions.{Instruction, PushText, Pair, Make, Auth, Unauth, Cat, VecFill, VecPut}
 use Rattle.value_store.specs.Nodes.{Node}
 use Rattle.value_store.specs.declared.node.Ref.{Ref}

@@ -1,17 +1,12 @@
 -- Calls on a state and an argument, and how their outcomes are told.
-use Rattle.std.specs.Prelude.{◌≡◌, ℕ, List}
+use Rattle.std.specs.Prelude.{ℕ, List}
 use Rattle.core_terms.specs.Formats.{Hash}
 use Rattle.core_terms.specs.Projection.{digest_at}
-use Rattle.core_terms.specs.Roles.{IsRole, ReadsState, argument_type}
-use Rattle.core_terms.specs.Spelling.{Spells}
+use Rattle.core_terms.specs.Roles.{argument_type}
+use Rattle.core_terms.specs.RoleTypes.{IsRole, ReadsState}
 use Rattle.core_terms.specs.Terms.{Kind, Program}
 use Rattle.core_terms.specs.Types.{Ty}
 use Rattle.core_terms.specs.Values.{Value}
-use Rattle.core_terms.specs.declared.byte_string.ByteString.{ByteString as Spelling}
-use Rattle.core_terms.specs.declared.outcome.Outcome.{Outcome}
-use Rattle.core_terms.specs.declared.outcome.Outcome.TheVariants as told
-use Rattle.ideal_meaning.specs.Ideal as ideal
-use Rattle.ideal_meaning.specs.Told.{trap_told}
 use Rattle.value_store.specs.Nodes.{Node}
 use Rattle.value_store.specs.Standing.{ProverNodes, StandsFor}
 use Rattle.value_store.specs.declared.node.Ref.{Ref}
@@ -24,10 +19,3 @@ TakesState P f = (kind : Kind) × (argument : Ty) × (answer : Ty) × IsRole P f
 pub record IsCalledOn (hash : Hash) (P : Program) (f : ℕ) (nodes : List Node) (state argument : Ref) (s a : Value) : Type 0 where
   pub state_stands : StandsFor (ProverNodes (digest_at hash P)) P.types nodes state.0 P.state s
   pub argument_stands : StandsFor (ProverNodes (digest_at hash P)) P.types nodes argument.0 (argument_type P f) a
-
--- The outcome of the definitions that an outcome with a spelling tells: its value is a shallow one of type t within the limits, with this
--- spelling.
-abbrev pub SpellsOutcome : Program → Ty → ideal.Outcome → Outcome Spelling → Type 0
-SpellsOutcome P t o (told.Done bytes) = (v : Value) × (o ≡ ideal.Done v) × Spells P.format.limit P.types bytes t v
-SpellsOutcome P t o (told.Trapped trap) = o ≡ ideal.Trapped (trap_told trap)
-SpellsOutcome P t o told.Out = o ≡ ideal.Out

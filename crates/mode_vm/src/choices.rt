@@ -3,7 +3,7 @@ ghost use Rattle.std.specs.Prelude.{◌≡◌, ◌+◌, ◌<◌, ◌^◌, length
 ghost use Rattle.core_terms.specs.Instructions as instruction;
 ghost use Rattle.value_store.specs.Standing.{Keeps};
 ghost use Rattle.core_terms.specs.Bodies.{code_at};
-ghost use Rattle.code_gen.specs.Code.{generated};
+ghost use Rattle.core_terms.specs.GeneratedCode.{generated};
 ghost use Rattle.mode_vm.specs.Meanings.{program_of};
 
 use crate::frame::Frame;

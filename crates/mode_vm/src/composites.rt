@@ -9,7 +9,7 @@ ghost use Rattle.ideal_meaning.specs.Run as meant;
 ghost use Rattle.value_store.specs.CodeNodes.{numbers_of};
 ghost use Rattle.value_store.specs.Markings.{HasLimit, Marking};
 ghost use Rattle.value_store.specs.Standing.{AllStandFor, Keeps, Kind, StandsFor};
-ghost use Rattle.code_gen.specs.Code as code_meant;
+ghost use Rattle.core_terms.specs.GeneratedCode as code_meant;
 ghost use Rattle.mode_vm.specs.Meanings.{program_of};
 ghost use Rattle.mode_vm.specs.Calculations.{Makes};
 

@@ -4,7 +4,7 @@ ghost use Rattle.core_terms.specs.Programs.{types_of};
 ghost use Rattle.value_store.specs.Markings.{HasLimit};
 ghost use Rattle.value_store.specs.Standing.{Keeps};
 ghost use Rattle.core_terms.specs.Bodies.{code_at};
-ghost use Rattle.code_gen.specs.Code.{generated};
+ghost use Rattle.core_terms.specs.GeneratedCode.{generated};
 ghost use Rattle.core_terms.specs.InstructionViews.{instruction_of};
 ghost use Rattle.code_gen.specs.Programs.{program_in};
 ghost use Rattle.mode_vm.specs.Meanings.{program_of};

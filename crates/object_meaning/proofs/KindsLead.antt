@@ -6,8 +6,8 @@ use Rattle.core_terms.specs.Types.{Ty, BoolTy, NamedTy}
 use Rattle.core_terms.proofs.TypingComplete.{both, same_self}
 use Rattle.core_terms.specs.Instructions.{Instruction, Switch, Branch, Jump}
 use Rattle.core_terms.specs.Bodies.{Body}
-use Rattle.code_gen.specs.Code.{laid, places}
-use Rattle.core_terms.specs.Accepted.{Shape, shape}
+use Rattle.core_terms.specs.GeneratedCode.{laid, places}
+use Rattle.core_terms.specs.CodeShapes.{Shape, shape}
 use Rattle.core_terms.specs.Kinds.{same_types, same_shape, Way, way, ways_by_tag, ways, Known, Unreached, Reached, Clashing, met, reach, reach_all, fault_or, first_fault}
 
 types_self : (ts : List Ty) → same_types ts ts ≡ true

@@ -6,13 +6,15 @@ use Rattle.std.proofs.Math.Seq.{take-append_seam}
 use Rattle.std.specs.Prelude.{All}
 use Rattle.std.proofs.lemmas.List.Elements.{All-head, All-tail}
 use Rattle.core_terms.specs.Types.{Ty, UnitTy, BoolTy, IntTy, TextTy, PairTy, NamedTy, AuthTy, VecTy, Table, fields_at}
-use Rattle.core_terms.specs.ProgramLimits.{locals_in, locals_in_row, locals_in_arms}
-use Rattle.core_terms.specs.Terms.{Expression, UnitE, BoolE, IntE, TextE, LocalE, PairE, FstE, SndE, NotE, LenE, AuthE, UnauthE, ConE, ArithE, CompareE, TextCompareE, CatE, LetE, IfE, MatchE, CallE, OperateE, Operation, VecFill, VecGet, VecPut, operand_types, result_type, is_operation, Expressions, NoE, AndE, Arms, NoArm, AndArm, Function, Program, IsWrittenWell, function_at, HasType, HaveTypes, HaveArms}
+use Rattle.core_terms.specs.ProgramSizes.{locals_in, locals_in_row, locals_in_arms}
+use Rattle.core_terms.specs.Terms.{Expression, UnitE, BoolE, IntE, TextE, LocalE, PairE, FstE, SndE, NotE, LenE, AuthE, UnauthE, ConE, ArithE, CompareE, TextCompareE, CatE, LetE, IfE, MatchE, CallE, OperateE, Operation, VecFill, VecGet, VecPut, operand_types, result_type, Expressions, NoE, AndE, Arms, NoArm, AndArm, Function, Program, function_at}
+use Rattle.core_terms.specs.TypingRules.{is_operation, IsWrittenWell, HasType, HaveTypes, HaveArms}
 use Rattle.core_terms.proofs.TypingComplete.{same_self}
 use Rattle.core_terms.specs.Instructions.{Instruction, PushUnit, PushBool, PushInt, PushText, Load, Bind, Unbind, Pair, Fst, Snd, Make, Switch, Branch, Jump, Call, Return, Auth, Unauth, ArithOp, CompareOp, TextCompareOp, Cat, Len, Not}
 use Rattle.core_terms.specs.Bodies.{Body, FunctionCode}
-use Rattle.code_gen.specs.Code.{unbind_code, operation_code, laid, places, code_of, code_all, arm_codes, function_code, written_body}
-use Rattle.core_terms.specs.Accepted.{Shape, shape, push_types}
+use Rattle.core_terms.specs.GeneratedCode.{unbind_code, operation_code, laid, places, code_of, code_all, arm_codes, function_code, written_body}
+use Rattle.core_terms.specs.Accepted.{push_types}
+use Rattle.core_terms.specs.CodeShapes.{Shape, shape}
 use Rattle.ideal_meaning.proofs.Parts.{on_fields}
 use Rattle.code_meaning.proofs.Follows.{on_function, code_found}
 use Rattle.core_terms.specs.Kinds.{next, next_if, without_one, without, ways, Unreached, first_fault, fault_in, function_fault, fault_at, kind_fault_from, kind_fault}

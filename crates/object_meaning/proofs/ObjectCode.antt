@@ -5,7 +5,7 @@ use Rattle.core_terms.specs.Types.{Ty, UnitTy, BoolTy, IntTy, TextTy, PairTy, Na
 use Rattle.core_terms.specs.Terms.{Function, Program}
 use Rattle.core_terms.specs.Instructions as code
 use Rattle.core_terms.specs.Bodies.{Body, FunctionCode}
-use Rattle.code_gen.specs.Code.{function_code, codes_as, written_body}
+use Rattle.core_terms.specs.GeneratedCode.{function_code, codes_as, written_body}
 use Rattle.object_meaning.specs.Objects.{ListedConstructor, ListedType}
 use Rattle.object_meaning.specs.ReadObjects.{named_count}
 use Rattle.object_meaning.specs.ObjectBodies.{object_format, listed_at, tree_of, trees_behind, trees_of, named_tables, number_of, passed, instruction_of, code_from, function_in, body_in}

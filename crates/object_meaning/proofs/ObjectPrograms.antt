@@ -8,7 +8,8 @@ use Rattle.core_terms.specs.Bodies.{Body, FunctionCode}
 use Rattle.core_terms.specs.Kinds.{kinds_test}
 use Rattle.core_terms.specs.Terms.{Kind, Inner, Init, Query, Update, Function, Program, coded, body_of}
 use Rattle.core_terms.specs.Roles.{is_entered}
-use Rattle.core_terms.specs.Typing.{is_typed, shape_test, all_shaped}
+use Rattle.core_terms.specs.Typing.{is_typed, all_shaped}
+use Rattle.core_terms.specs.RoleShapes.{shape_test}
 use Rattle.core_terms.proofs.TypingComplete.{both}
 use Rattle.core_terms.proofs.TypingSound.{typed_sound}
 use Rattle.core_terms.proofs.LawProofs.{first_format_is_format}
@@ -16,7 +17,7 @@ use Rattle.ideal_meaning.specs.Called.{ran}
 use Rattle.ideal_meaning.specs.Checked.{checked_mode}
 use Rattle.ideal_meaning.specs.Ideal.{ideal_mode}
 use Rattle.ideal_meaning.specs.Execution.{call_code_from}
-use Rattle.code_gen.specs.Code.{function_code}
+use Rattle.core_terms.specs.GeneratedCode.{function_code}
 use Rattle.object_meaning.specs.Objects.{ListedType, ListedFunction, Object}
 use Rattle.object_meaning.specs.Accepting.{shape_fault_from}
 use Rattle.object_meaning.specs.ClosedPrograms.{FunctionsAreClosed}

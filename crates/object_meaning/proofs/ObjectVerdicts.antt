@@ -3,9 +3,10 @@ use Rattle.std.proofs.Common.{◌≡◌, ◌<◌, ◌^◌, ℕ, Bool, true, fals
 use Rattle.core_terms.specs.Formats.{Format, Hash, depth_limit}
 use Rattle.core_terms.specs.Projection.{read_at}
 use Rattle.core_terms.specs.Reading.{Read, Good, BadAt, read, read_value, whole}
-use Rattle.core_terms.specs.Roles.{ReadsState, role_parameters}
+use Rattle.core_terms.specs.RoleTypes.{ReadsState, role_parameters}
 use Rattle.core_terms.specs.Spelling.{AreBytes}
-use Rattle.core_terms.specs.Terms.{Kind, Inner, Init, Query, Update, Program, IsTyped, function_at, no_function}
+use Rattle.core_terms.specs.Terms.{Kind, Inner, Init, Query, Update, Program, function_at, no_function}
+use Rattle.core_terms.specs.TypingRules.{IsTyped}
 use Rattle.core_terms.specs.Types.{Ty, Table}
 use Rattle.core_terms.specs.Values.{Value, Values, NoV, AndV, IsShallow, AreShallow}
 use Rattle.core_terms.proofs.LawProofs.{first_format_is_format, reading_is_exact}

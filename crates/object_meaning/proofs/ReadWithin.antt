@@ -9,7 +9,8 @@ use Rattle.std.specs.Str.{is_utf8}
 use Rattle.std.proofs.lemmas.List.{length-map}
 use Rattle.std.proofs.lemmas.List.Elements.{All-cons, All-nil}
 use Rattle.core_terms.specs.Names.{IsName, longest_name}
-use Rattle.core_terms.specs.ProgramLimits.{most_types, most_constructors, most_fields, most_functions, most_parameters, instructions_in_all, IsFunctionWithin}
+use Rattle.core_terms.specs.ProgramLimits.{most_types, most_constructors, most_fields, most_functions, most_parameters}
+use Rattle.core_terms.specs.ProgramSizes.{instructions_in_all, IsFunctionWithin}
 use Rattle.core_terms.specs.Terms.{Kind, Inner, Init, Query, Update}
 use Rattle.core_terms.specs.Types.{Ty}
 use Rattle.core_terms.specs.declared.term.Arith.TheVariants.{Add}

@@ -3,12 +3,13 @@ use Rattle.std.proofs.Common.{◌≡◌, ◌≤◌, ℕ, suc, Bool, true, false,
 use Rattle.std.specs.Int.{w16, to_be_bytes}
 use Rattle.std.proofs.lemmas.List.{length-map}
 use Rattle.core_terms.specs.Types.{Ty, PairTy, same_type}
-use Rattle.core_terms.specs.Typing.{shape_test, all_shaped}
+use Rattle.core_terms.specs.Typing.{all_shaped}
+use Rattle.core_terms.specs.RoleShapes.{shape_test}
 use Rattle.core_terms.specs.Roles.{is_entered, has_auth}
 use Rattle.core_terms.specs.Terms.{Kind, Inner, Init, Query, Update, Function, Program}
 use Rattle.core_terms.specs.Instructions as code
 use Rattle.core_terms.specs.Bodies.{FunctionCode}
-use Rattle.code_gen.specs.Code.{function_code, written_body}
+use Rattle.core_terms.specs.GeneratedCode.{function_code, written_body}
 use Rattle.object_meaning.specs.Objects.{Instruction, PushUnit, PushBool, PushInt, PushText, Load, Bind, Unbind, Pair, Fst, Snd, Make, Switch, Branch, Jump, Call, Return, Auth, Unauth, ArithOp, CompareOp, TextCompareOp, Cat, Len, Not, Object, ListedType, ListedFunction, most_listed_types, most_object_bytes}
 use Rattle.object_meaning.specs.ObjectBytes.{object_magic, bytes_of_all, word, words, name_bytes, type_bytes, instruction_bytes, function_bytes, object_bytes}
 use Rattle.object_meaning.specs.WellFormedObjects.{AllBelow, HasRoleName, AreFunctions, AreTypes, AreInstructions, IsObject}

@@ -6,8 +6,8 @@ use Rattle.core_terms.specs.Types.{Ty, UnitTy, BoolTy, NamedTy, Table, fields_at
 use Rattle.core_terms.specs.Terms.{Program}
 use Rattle.core_terms.specs.Instructions as code
 use Rattle.core_terms.specs.Bodies.{Body}
-use Rattle.code_gen.specs.Code.{function_code, written_body}
-use Rattle.core_terms.specs.Accepted.{Shape}
+use Rattle.core_terms.specs.GeneratedCode.{function_code, written_body}
+use Rattle.core_terms.specs.CodeShapes.{Shape}
 use Rattle.object_meaning.specs.Objects.{ListedType, ListedUnit}
 use Rattle.object_meaning.specs.ReadObjects.{constructors_in, constructors_of, is_named}
 use Rattle.object_meaning.specs.WellFormedObjects.{AllBelow, AllAhead, IsInstruction, AreInstructions}

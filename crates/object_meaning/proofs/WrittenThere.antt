@@ -1,11 +1,13 @@
 -- What the code of a written program names is there.
 use Rattle.std.proofs.Common.{◌≡◌, ℕ, suc, List, [], ◌∷◌, Some, slice_get, unwrap_or}
 use Rattle.core_terms.specs.Types.{Ty}
-use Rattle.core_terms.specs.Terms.{Program, IsWrittenWell}
+use Rattle.core_terms.specs.Terms.{Program}
+use Rattle.core_terms.specs.TypingRules.{IsWrittenWell}
 use Rattle.core_terms.specs.Instructions.{Instruction, PushInt, PushText, Call}
 use Rattle.core_terms.specs.Bodies.{Body, FunctionCode, no_function_code}
-use Rattle.core_terms.specs.Accepted.{Shape, Fits, IsFine}
-use Rattle.code_gen.specs.Code.{written_body}
+use Rattle.core_terms.specs.Accepted.{Fits, IsFine}
+use Rattle.core_terms.specs.CodeShapes.{Shape}
+use Rattle.core_terms.specs.GeneratedCode.{written_body}
 use Rattle.code_meaning.proofs.Generated.{written_accepted}
 use Rattle.object_meaning.proofs.There.{IsThere, AreThere, AllThere}
 

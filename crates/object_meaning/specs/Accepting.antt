@@ -1,7 +1,7 @@
 -- Which bytes are an object that is accepted, and else its first fault.
 use Rattle.std.specs.Prelude.{ℕ, suc, List, [], ◌∷◌, length, Option, Some, None, if◌then◌else◌}
 use Rattle.core_terms.specs.Terms.{Function, Program}
-use Rattle.core_terms.specs.Typing.{shape_test}
+use Rattle.core_terms.specs.RoleShapes.{shape_test}
 use Rattle.object_meaning.specs.Objects.{Object}
 use Rattle.object_meaning.specs.ReadObjects.{object_read}
 use Rattle.object_meaning.specs.Readers.{Taken, Takes, CutShort, BadAt}

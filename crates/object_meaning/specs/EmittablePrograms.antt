@@ -3,7 +3,8 @@ use Rattle.std.specs.Prelude.{◌≡◌, ◌≤◌, ℕ, true, List, [], ◌∷�
 use Rattle.core_terms.specs.Types.{Ty, Table}
 use Rattle.core_terms.specs.ProgramLimits.{most_constructors, most_fields, most_functions, most_parameters, most_types}
 use Rattle.core_terms.specs.Roles.{is_entered}
-use Rattle.core_terms.specs.Terms.{Kind, Inner, Function, Program, IsWrittenWell}
+use Rattle.core_terms.specs.Terms.{Kind, Inner, Function, Program}
+use Rattle.core_terms.specs.TypingRules.{IsWrittenWell}
 use Rattle.core_terms.specs.Typing.{is_shaped}
 use Rattle.object_meaning.specs.ObjectBodies.{object_format}
 use Rattle.object_meaning.specs.ReadObjects.{is_upper_name, is_lower_name}

@@ -1,11 +1,13 @@
 -- The laws of kinds.
 use Rattle.std.specs.Prelude.{◌≡◌, ◌≤◌, true, length, All}
-use Rattle.core_terms.specs.ProgramLimits.{most_locals, locals_in}
-use Rattle.core_terms.specs.Terms.{Expression, PairE, FstE, SndE, NotE, LenE, AuthE, UnauthE, ConE, ArithE, CompareE, TextCompareE, CatE, LetE, IfE, MatchE, CallE, OperateE, Expressions, NoE, AndE, Arms, NoArm, AndArm, Function, Program, IsWrittenWell}
+use Rattle.core_terms.specs.ProgramLimits.{most_locals}
+use Rattle.core_terms.specs.ProgramSizes.{locals_in}
+use Rattle.core_terms.specs.Terms.{Expression, PairE, FstE, SndE, NotE, LenE, AuthE, UnauthE, ConE, ArithE, CompareE, TextCompareE, CatE, LetE, IfE, MatchE, CallE, OperateE, Expressions, NoE, AndE, Arms, NoArm, AndArm, Function, Program}
+use Rattle.core_terms.specs.TypingRules.{IsWrittenWell}
 use Rattle.core_terms.specs.Bodies.{Body}
 use Rattle.core_terms.specs.Accepted.{IsAccepted}
 use Rattle.core_terms.specs.Kinds.{kinds_test}
-use Rattle.code_gen.specs.Code.{written_body}
+use Rattle.core_terms.specs.GeneratedCode.{written_body}
 
 -- Code that passes the test of kinds is accepted.
 abbrev pub KindsAreAccepted : Type 0

@@ -3,17 +3,19 @@ use Rattle.std.specs.Prelude.{◌≡◌, ◌≤◌, ℕ, true, List, [], length,
 use Rattle.core_terms.specs.Formats.{Hash, IsFormat}
 use Rattle.core_terms.specs.Bodies.{FunctionCode}
 use Rattle.core_terms.specs.Accepted.{IsAccepted}
-use Rattle.core_terms.specs.ProgramLimits.{IsName, IsWithinLimits}
-use Rattle.core_terms.specs.Roles.{IsRole, ReadsState}
+use Rattle.core_terms.specs.ProgramLimits.{IsName}
+use Rattle.core_terms.specs.ProgramSizes.{IsWithinLimits}
+use Rattle.core_terms.specs.RoleTypes.{IsRole, ReadsState}
 use Rattle.core_terms.specs.Spelling.{AreBytes}
-use Rattle.core_terms.specs.Terms.{Kind, Function, Program, UnitE, IsTyped, function_at}
+use Rattle.core_terms.specs.Terms.{Kind, Function, Program, UnitE, function_at}
+use Rattle.core_terms.specs.TypingRules.{IsTyped}
 use Rattle.core_terms.specs.Types.{Ty}
 use Rattle.core_terms.specs.Typing.{is_typed, is_shaped}
 use Rattle.core_terms.specs.Values.{Values, AreIdeal, AreShallow}
 use Rattle.ideal_meaning.specs.Checked.{Taking, checked, checked_mode, verdict}
 use Rattle.ideal_meaning.specs.Ideal.{ideal, ideal_mode}
 use Rattle.ideal_meaning.specs.Execution.{Ran, call_code_from}
-use Rattle.code_gen.specs.Code.{generated, written_body}
+use Rattle.core_terms.specs.GeneratedCode.{generated, written_body}
 use Rattle.object_meaning.specs.Accepting.{Accepts, accepting}
 use Rattle.object_meaning.specs.ClosedPrograms.{IsClosedProgram}
 use Rattle.object_meaning.specs.EmittablePrograms.{IsEmittable}

@@ -10,7 +10,7 @@ use Rattle.ideal_meaning.specs.ExampleProofs.{file}
 use Rattle.ideal_meaning.specs.Ideal.{ideal, Done}
 use Rattle.ideal_meaning.specs.Library.{bst}
 use Rattle.ideal_meaning.specs.Run.{Gives}
-use Rattle.code_gen.specs.Code.{generated}
+use Rattle.core_terms.specs.GeneratedCode.{generated}
 use Rattle.object_meaning.specs.Objects.{ListedUnit, ListedAuth, Load, Unauth, Return, Object}
 use Rattle.object_meaning.specs.ObjectBytes.{object_bytes}
 use Rattle.object_meaning.specs.ObjectBodies.{body_in, program_in}

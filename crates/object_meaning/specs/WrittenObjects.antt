@@ -6,7 +6,7 @@ use Rattle.core_terms.specs.Terms as tree
 use Rattle.core_terms.specs.Roles.{is_entered}
 use Rattle.core_terms.specs.Instructions as code
 use Rattle.core_terms.specs.Bodies.{FunctionCode}
-use Rattle.code_gen.specs.Code.{function_code}
+use Rattle.core_terms.specs.GeneratedCode.{function_code}
 use Rattle.object_meaning.specs.Objects.{ListedConstructor, ListedType, ListedUnit, ListedBool, ListedInt, ListedText, ListedPair, ListedNamed, ListedAuth, Instruction, PushUnit, PushBool, PushInt, PushText, Load, Bind, Unbind, Pair, Fst, Snd, Make, Switch, Branch, Jump, Call, Return, Auth, Unauth, ArithOp, CompareOp, TextCompareOp, Cat, Len, Not, ListedFunction, Object, most_object_bytes, most_listed_types}
 use Rattle.object_meaning.specs.ObjectBytes.{object_bytes}
 

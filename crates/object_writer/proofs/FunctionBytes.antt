@@ -4,7 +4,7 @@ use Rattle.std.proofs.lemmas.List.{length-map}
 use Rattle.core_terms.specs.Instructions as code
 use Rattle.core_terms.specs.Terms as tree
 use Rattle.core_terms.specs.Types.{Ty, Table}
-use Rattle.code_gen.specs.Code.{function_code}
+use Rattle.core_terms.specs.GeneratedCode.{function_code}
 use Rattle.object_meaning.specs.ObjectBytes.{bytes_of_all, function_bytes, instruction_bytes, word, words}
 use Rattle.object_meaning.specs.WrittenObjects.{code_written, function_written, number_in}
 use Rattle.object_writer.specs.WrittenFunctions.{body_bytes, head_bytes, signature_bytes}

@@ -15,7 +15,7 @@ use Rattle.core_terms.specs.declared.instruction.Instruction.{Instruction}
 use Rattle.core_terms.specs.declared.program.Program.{Program}
 use Rattle.core_terms.specs.declared.program_types.Types.{Types}
 use Rattle.core_terms.specs.declared.term.Function.{Function}
-use Rattle.code_gen.specs.Code.{codes_as, function_code, generated}
+use Rattle.core_terms.specs.GeneratedCode.{codes_as, function_code, generated}
 use Rattle.object_meaning.specs.WrittenObjects.{codes_in}
 
 module _ (P : tree.Program) (types : List Ty) (functions : List Function) (i : ℕ) (f : Function) (same : map (function_of types) functions ≡ P.functions) (inside : i < length functions)

@@ -5,13 +5,15 @@ use Rattle.std.proofs.Math.Nat.{le-max_left, le-max_right}
 use Rattle.std.proofs.lemmas.List.Elements.{All-append, All-cons, All-nil, All-head, All-tail}
 use Rattle.std.proofs.lemmas.Option.{slice_get_within}
 use Rattle.core_terms.specs.Types.{Ty, BoolTy, IntTy, TextTy, PairTy, NamedTy, AuthTy, Table, fields_at}
-use Rattle.core_terms.specs.Terms.{Expression, UnitE, BoolE, IntE, TextE, LocalE, PairE, FstE, SndE, NotE, LenE, AuthE, UnauthE, ConE, ArithE, CompareE, TextCompareE, CatE, LetE, IfE, MatchE, CallE, OperateE, Operation, VecFill, VecGet, VecPut, operand_types, Expressions, NoE, AndE, Arms, NoArm, AndArm, Function, Program, IsTypedAs, IsWrittenWell, HasType, HaveTypes, HaveArms, OnFunction}
+use Rattle.core_terms.specs.Terms.{Expression, UnitE, BoolE, IntE, TextE, LocalE, PairE, FstE, SndE, NotE, LenE, AuthE, UnauthE, ConE, ArithE, CompareE, TextCompareE, CatE, LetE, IfE, MatchE, CallE, OperateE, Operation, VecFill, VecGet, VecPut, operand_types, Expressions, NoE, AndE, Arms, NoArm, AndArm, Function, Program}
+use Rattle.core_terms.specs.TypingRules.{IsTypedAs, IsWrittenWell, HasType, HaveTypes, HaveArms, OnFunction}
 use Rattle.core_terms.specs.Instructions.{Instruction, PushUnit, PushBool, PushInt, PushText, Load, Bind, Unbind, Pair, Fst, Snd, Make, Switch, Branch, Jump, Call, Return, Auth, Unauth, ArithOp, CompareOp, TextCompareOp, Cat, Len, Not}
 use Rattle.core_terms.specs.Programs.{meaning}
-use Rattle.core_terms.specs.ProgramLimits.{locals_in, locals_in_row, locals_in_arms, most_fields, most_functions, most_instructions, most_locals, IsFunctionWithin, IsBodyWithin, IsWithinLimits}
+use Rattle.core_terms.specs.ProgramLimits.{most_fields, most_functions, most_instructions, most_locals}
+use Rattle.core_terms.specs.ProgramSizes.{locals_in, locals_in_row, locals_in_arms, IsFunctionWithin, IsBodyWithin, IsWithinLimits}
 use Rattle.core_terms.proofs.CodePrograms.{is_typed}
 use Rattle.core_terms.proofs.Fields.{on_fields}
-use Rattle.code_gen.specs.Code.{behind, unbind_code, operation_code, laid, places, code_of, code_all, arm_codes, codes_as, function_code}
+use Rattle.core_terms.specs.GeneratedCode.{behind, unbind_code, operation_code, laid, places, code_of, code_all, arm_codes, codes_as, function_code}
 use Rattle.code_gen.specs.CodeSizes.{code_size}
 use Rattle.code_gen.specs.Programs.{program_in}
 use Rattle.code_gen.specs.declared.code.Code.{Code}

@@ -5,7 +5,7 @@ use Rattle.core_terms.specs.TypeTables.{type_at}
 use Rattle.core_terms.specs.Types.{Ty, Table}
 use Rattle.core_terms.specs.declared.term.Constructor.{Constructor}
 use Rattle.core_terms.specs.declared.term.Function.{Function}
-use Rattle.code_gen.specs.Code.{function_code}
+use Rattle.core_terms.specs.GeneratedCode.{function_code}
 use Rattle.object_meaning.specs.WrittenObjects.{with_fields, with_functions, with_instructions, with_type, with_types}
 use Rattle.object_writer.proofs.ListedParts.{functions_grow}
 

@@ -1,23 +1,27 @@
 -- Where whoever is asked holds every honest piece, the outcome is the true one, or there is a split.
 use Rattle.std.proofs.Common.{◌≡◌, ◌⊎◌, inl, inr, ℕ, List, [], ◌∷◌, Result, Ok, Err, refl, sym, ap, ap₂, ◌∙◌, subst}
 use Rattle.core_terms.specs.Formats.{Hash, IsHash, IsFormat}
-use Rattle.core_terms.specs.Terms.{Program, function_at, IsTyped}
+use Rattle.core_terms.specs.Terms.{Program, function_at}
+use Rattle.core_terms.specs.TypingRules.{IsTyped}
 use Rattle.core_terms.specs.Values.{Value, IsIdeal}
 use Rattle.core_terms.specs.Projection.{projection, Fits}
 use Rattle.core_terms.specs.Spelling.{spelling}
-use Rattle.core_terms.specs.Roles.{IsRole, argument_type, role_result}
+use Rattle.core_terms.specs.Roles.{argument_type}
+use Rattle.core_terms.specs.RoleTypes.{IsRole, role_result}
 use Rattle.core_terms.specs.declared.outcome.Outcome.{Outcome}
 use Rattle.core_terms.specs.declared.byte_string.ByteString.{ByteString as Spelling}
 use Rattle.ideal_meaning.specs.Run.{state_of}
 use Rattle.ideal_meaning.specs.Ideal as ideal
 use Rattle.ideal_meaning.specs.Agreement.{AllOpenedFit}
 use Rattle.ideal_meaning.specs.Checked as checked
-use Rattle.ideal_meaning.specs.Fetched.{Got, IsPiece, IsLack, IsBroken, Gave, GaveLast, Answered, IsStore, HoldsAll, verdict_from}
+use Rattle.ideal_meaning.specs.Fetched.{Got, IsPiece, IsLack, IsBroken, Gave, GaveLast, Answered, HoldsAll, verdict_from}
+use Rattle.ideal_meaning.specs.FetchLaws.{IsStore}
 use Rattle.ideal_meaning.specs.PieceForms.{IsOfWhole}
 use Rattle.ideal_meaning.specs.Headline.{call_of}
 use Rattle.ideal_meaning.proofs.Fetching.{fetch_companion}
 use Rattle.ideal_meaning.proofs.RoleCalls.{parameters_are, result_is}
-use Rattle.mode_vm.specs.StateCalls.{SpellsOutcome, TakesState}
+use Rattle.mode_vm.specs.StateCalls.{TakesState}
+use Rattle.ideal_meaning.specs.SpelledOutcomes.{SpellsOutcome}
 use Rattle.mode_vm.proofs.StateCalls.{parameters_of}
 use Rattle.piece_fetch.specs.Completes.{Completes, HasSplit, IsComplete, SplitOver, true_outcome, verdict_over}
 use Rattle.piece_fetch.specs.Verdicts.{Judges}

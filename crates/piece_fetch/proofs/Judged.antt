@@ -2,11 +2,13 @@
 use Rattle.std.proofs.Common.{◌≡◌, inl, inr, ℕ, List, [], ◌∷◌, ◌++◌, map, Some, Ok, Err, refl, sym, ap, ap₂, ◌∙◌, subst, append-nil}
 use Rattle.core_terms.specs.Formats.{Hash, IsHash, IsFormat}
 use Rattle.core_terms.specs.Types.{Ty}
-use Rattle.core_terms.specs.Terms.{Program, function_at, IsTyped}
+use Rattle.core_terms.specs.Terms.{Program, function_at}
+use Rattle.core_terms.specs.TypingRules.{IsTyped}
 use Rattle.core_terms.specs.Values.{Value, NoV, AndV, IsIdeal}
 use Rattle.core_terms.specs.Projection.{projection, read_at}
 use Rattle.core_terms.specs.Spelling.{Spells, spelling}
-use Rattle.core_terms.specs.Roles.{IsRole, argument_type, role_result}
+use Rattle.core_terms.specs.Roles.{argument_type}
+use Rattle.core_terms.specs.RoleTypes.{IsRole, role_result}
 use Rattle.core_terms.specs.declared.outcome.Outcome.{Outcome}
 use Rattle.core_terms.specs.declared.outcome.Outcome.TheVariants as told
 use Rattle.core_terms.specs.declared.byte_string.ByteString.{ByteString as Spelling}
@@ -28,7 +30,8 @@ use Rattle.value_store.specs.declared.node.Ref.{Ref}
 use Rattle.value_store.proofs.StandingNodes.{within_stands}
 use Rattle.value_store.proofs.TypedNodes.{shallow_stands}
 use Rattle.mode_vm.specs.Openings.{Came, GaveAll}
-use Rattle.mode_vm.specs.StateCalls.{SpellsOutcome, TakesState}
+use Rattle.mode_vm.specs.StateCalls.{TakesState}
+use Rattle.ideal_meaning.specs.SpelledOutcomes.{SpellsOutcome}
 use Rattle.mode_vm.proofs.StateCalls.{parameters_of}
 use Rattle.mode_vm.specs.declared.mode.Stop.{Stop}
 use Rattle.mode_vm.specs.declared.mode.Stop.TheVariants as stop

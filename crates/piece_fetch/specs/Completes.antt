@@ -13,9 +13,10 @@ use Rattle.ideal_meaning.specs.Ideal as ideal
 use Rattle.ideal_meaning.specs.Agreement.{AllOpenedFit}
 use Rattle.ideal_meaning.specs.Frames.{offered_pieces}
 use Rattle.ideal_meaning.specs.Checked as checked
-use Rattle.ideal_meaning.specs.Fetched.{Got, Answered, IsStore, HoldsAll, answered, verdict_from, whole_pieces}
+use Rattle.ideal_meaning.specs.Fetched.{Got, Answered, HoldsAll, answered, verdict_from, whole_pieces}
+use Rattle.ideal_meaning.specs.FetchLaws.{IsStore}
 use Rattle.ideal_meaning.specs.Headline.{call_of}
-use Rattle.mode_vm.specs.StateCalls.{SpellsOutcome}
+use Rattle.ideal_meaning.specs.SpelledOutcomes.{SpellsOutcome}
 use Rattle.piece_fetch.specs.declared.verdict.FetchVerdict.{FetchVerdict}
 use Rattle.piece_fetch.specs.declared.verdict.FetchVerdict.TheVariants.{Rejected, BadState, BadArgument, FetchFault, NoMemory}
 

@@ -14,7 +14,7 @@ use Rattle.ideal_meaning.specs.Frames.{offered_pieces}
 use Rattle.ideal_meaning.specs.Checked as checked
 use Rattle.ideal_meaning.specs.Fetched.{Got, Answered, answered, verdict_from, whole_pieces}
 use Rattle.ideal_meaning.specs.Headline.{call_of}
-use Rattle.mode_vm.specs.StateCalls.{SpellsOutcome}
+use Rattle.ideal_meaning.specs.SpelledOutcomes.{SpellsOutcome}
 use Rattle.mode_vm.specs.declared.mode.Stop.{Stop}
 use Rattle.mode_vm.specs.declared.mode.Stop.TheVariants as stop
 use Rattle.verifier_mode.specs.declared.verdict.CallFault.{CallFault}

@@ -19,11 +19,12 @@ use Rattle.core_terms.specs.Types.{Ty, UnitTy, BoolTy, IntTy, TextTy, PairTy, Na
 use Rattle.core_terms.proofs.ReadBack.{length_piece}
 use Rattle.value_store.proofs.StandingNodes.{within_stands}
 use Rattle.value_store.proofs.TypedNodes.{ideal_stands, prover_refers}
-use Rattle.images.specs.AuthOrders.{AreInOrder}
+use Rattle.images.specs.AuthOrdersInCode.{AreInOrder}
 use Rattle.images.specs.Images.{Entry}
 use Rattle.images.specs.Reached.{OrderReached}
 use Rattle.images.proofs.ReachedOver.{met_over}
-use Rattle.piece_mirror.specs.Filled.{IsProverState, IsProverValue, all_added, piece_of, pieces_of}
+use Rattle.piece_mirror.specs.Filled.{all_added, piece_of, pieces_of}
+use Rattle.piece_mirror.specs.FilledInCode.{IsProverState, IsProverValue}
 use Rattle.piece_mirror.specs.Mirrors.{added, piece_limit}
 
 module _ (hash : Hash) (p : Types) (nodes : List Node) (root : ℕ) (v : Value) (state : IsProverState hash (types_meaning p) nodes root v) where

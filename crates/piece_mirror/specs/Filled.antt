@@ -8,21 +8,11 @@ use Rattle.core_terms.specs.Terms.{Program}
 use Rattle.core_terms.specs.Types.{Ty}
 use Rattle.core_terms.specs.Values.{Value}
 use Rattle.core_terms.specs.declared.program_types.Types.{Types}
-use Rattle.value_store.specs.Nodes.{Node}
-use Rattle.value_store.specs.Standing.{ProverNodes, StandsFor}
 use Rattle.images.specs.AuthOrders.{auth_entries}
 use Rattle.images.specs.Images.{Entry}
 use Rattle.piece_mirror.specs.Mirrors.{added}
 
 module _ (hash : Hash) (P : Program) where
-  -- the node stands, over the prover's nodes, for this value of the type
-  abbrev pub IsProverValue : List Node → ℕ → Ty → Value → Type 0
-  IsProverValue nodes r t v = StandsFor (ProverNodes (digest_at hash P)) P.types nodes r t v
-
-  -- for this value of the state's type
-  abbrev pub IsProverState : List Node → ℕ → Value → Type 0
-  IsProverState nodes root v = IsProverValue nodes root P.state v
-
   -- The piece of a value: the spelling of its projection, behind the fingerprint that digests at its type tell, where they tell one.
   abbrev pub piece_of : Ty → Value → List ℕ
   piece_of t v = unwrap_or (P.format.print hash t) [] ++ spelling (projection hash P t v)

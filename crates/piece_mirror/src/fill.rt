@@ -5,7 +5,8 @@ ghost use Rattle.core_terms.specs.ProgramTypes.{types_meaning};
 ghost use Rattle.core_terms.specs.Values.{Value};
 ghost use Rattle.shallow_codec.specs.ProgramTypes.{ty_of};
 ghost use Rattle.value_store.specs.Stores.{nodes_in};
-ghost use Rattle.piece_mirror.specs.Filled.{IsProverState, IsProverValue, all_added, piece_of, pieces_in};
+ghost use Rattle.piece_mirror.specs.Filled.{all_added, piece_of, pieces_in};
+ghost use Rattle.piece_mirror.specs.FilledInCode.{IsProverState, IsProverValue};
 ghost use Rattle.piece_mirror.specs.Mirrors.{piece_limit};
 ghost use Rattle.piece_mirror.specs.Tables.{bytes_of};
 

@@ -2,7 +2,8 @@
 use Rattle.std.proofs.Common.{◌≡◌, ℕ, suc, max, ◌≤◌, true, List, [], ◌∷◌, map, refl, sym, ap, ap₂, subst}
 use Rattle.core_terms.specs.Types.{is_length}
 use Rattle.auth_syntax.specs.Syntax.{TypeSyntax, AuthTypeSyntax, PairTypeSyntax, VecTypeSyntax, ExpSyntax, PairSyntax, UnarySyntax, BinarySyntax, CallSyntax, ConstructorSyntax, OperateSyntax, LetSyntax, IfSyntax, MatchSyntax, ExpsSyntax, NoExp, AndExp, ArmsSyntax, NoArmSyntax, AndArmSyntax, ParameterSyntax, FunctionSyntax, ConstructorDeclaration, DeclarationSyntax, TypeDeclaration, StateDeclaration, FunctionDeclaration}
-use Rattle.auth_syntax.specs.Grammar.{type_levels, expression_levels, expressions_levels, arms_levels, HasLengths, has_length, others_of, row_length, HasParts, HaveParts, ArmsHaveParts, IsSome, IsType, IsExpression, AreTypes, AreParameters, AreConstructors, IsFunction, IsDeclaration, AreDeclarations}
+use Rattle.auth_syntax.specs.Grammar.{type_levels, expression_levels, expressions_levels, arms_levels, HasLengths, has_length, row_length, HasParts, HaveParts, ArmsHaveParts, IsSome, IsType, IsExpression, AreTypes, AreParameters, AreConstructors, IsFunction, IsDeclaration, AreDeclarations}
+use Rattle.auth_syntax.specs.Nesting.{others_of}
 use Rattle.printed_syntax.specs.WithoutPlaces.{type_without_places, expression_without_places, expressions_without_places, arms_without_places, parameter_without_places, function_without_places, constructor_without_places, declaration_without_places}
 
 -- levels

@@ -8,7 +8,8 @@ use Rattle.lexemes.specs.Readings.{Reading, Found, FaultAt}
 use Rattle.lexemes.specs.Tokens.{Tokens, Next, End, Faulty, count, tokens}
 use Rattle.auth_syntax.specs.Syntax.{DeclarationSyntax, Program}
 use Rattle.auth_syntax.specs.ProgramTokens.{read_format, told_format, format_or_first, text_tokens}
-use Rattle.auth_syntax.specs.Grammar.{Written, AreWritten, program_tokens, nesting_limit, IsProgramText}
+use Rattle.auth_syntax.specs.Grammar.{Written, AreWritten, program_tokens, IsProgramText}
+use Rattle.auth_syntax.specs.Nesting.{nesting_limit}
 use Rattle.auth_syntax.specs.Parsing.{Tree, read_declarations, end_of, as_program, read_program}
 use Rattle.printed_syntax.specs.PrintedPrograms.{format_text, program_text}
 use Rattle.printed_syntax.specs.PrintedProgramLaws.{AreTokens, CanBeWritten, PrintedProgramIsReadBack, ParsedIsReadBack}

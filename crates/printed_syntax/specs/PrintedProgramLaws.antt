@@ -13,7 +13,8 @@ use Rattle.lexemes.specs.declared.token.Mark.TheVariants.{LeftBracket, RightBrac
 use Rattle.lexemes.specs.Tokens.{Token, KeywordToken, MarkToken, LowerToken, UpperToken, IntToken, TextToken, is_name_byte, keyword_of, name_limit, text_limit}
 use Rattle.auth_syntax.specs.Syntax.{Program}
 use Rattle.auth_syntax.specs.ProgramTokens.{format_or_first}
-use Rattle.auth_syntax.specs.Grammar.{Written, program_tokens, nesting_limit, AreDeclarations, IsProgramText}
+use Rattle.auth_syntax.specs.Grammar.{Written, program_tokens, AreDeclarations, IsProgramText}
+use Rattle.auth_syntax.specs.Nesting.{nesting_limit}
 use Rattle.auth_syntax.specs.Parsing.{parsed, Tree}
 use Rattle.printed_syntax.specs.PrintedPrograms.{program_text}
 use Rattle.printed_syntax.specs.WithoutPlaces.{without_places}

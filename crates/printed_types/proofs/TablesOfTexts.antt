@@ -5,7 +5,8 @@ use Rattle.core_terms.specs.TypeDeclarations as table
 use Rattle.core_terms.specs.declared.format.Format.{Format}
 use Rattle.auth_syntax.specs.ProgramTokens.{format_or_first}
 use Rattle.auth_syntax.specs.Syntax.{DeclarationSyntax, TypeDeclaration, Program}
-use Rattle.auth_syntax.specs.Grammar.{declarations_tokens, format_tokens, nesting_limit}
+use Rattle.auth_syntax.specs.Grammar.{declarations_tokens, format_tokens}
+use Rattle.auth_syntax.specs.Nesting.{nesting_limit}
 use Rattle.printed_syntax.specs.PrintedProgramLaws.{ParsedIsReadBack}
 use Rattle.declared_types.specs.Checking.{Sound}
 use Rattle.declared_types.specs.WrittenTypes.{type_names, table_of, known_constructors, known_declaration, known_declarations}

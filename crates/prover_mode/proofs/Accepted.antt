@@ -3,7 +3,7 @@ use Rattle.std.proofs.Common.{◌≡◌, ℕ, ◌≤◌, List, sym, subst}
 use Rattle.core_terms.specs.Formats.{Hash, IsHash}
 use Rattle.core_terms.specs.Programs.{meaning}
 use Rattle.core_terms.specs.Projection.{projection}
-use Rattle.core_terms.specs.Roles.{role_result}
+use Rattle.core_terms.specs.RoleTypes.{role_result}
 use Rattle.core_terms.specs.Spelling.{spelling}
 use Rattle.core_terms.specs.Terms.{Program, function_at}
 use Rattle.core_terms.specs.Types.{Ty}

@@ -19,7 +19,7 @@ use Rattle.value_store.specs.Nodes.{Node}
 use Rattle.value_store.specs.Standing.{ProverNodes}
 use Rattle.value_store.specs.declared.node.Ref.{Ref}
 use Rattle.mode_vm.specs.IdealRuns.{IsOutcome}
-use Rattle.mode_vm.specs.StateCalls.{SpellsOutcome}
+use Rattle.ideal_meaning.specs.SpelledOutcomes.{SpellsOutcome}
 use Rattle.reuse_buffer.specs.Kept.{Kept, kept}
 use Rattle.prover_mode.specs.Seen.{AreSeen, pieces_of}
 use Rattle.prover_mode.specs.Written.{HasWritten}

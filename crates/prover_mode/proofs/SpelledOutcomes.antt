@@ -18,7 +18,7 @@ use Rattle.value_store.proofs.ProverNodes.{shown_shallow}
 use Rattle.value_store.proofs.StandingNodes.{within_stands}
 use Rattle.value_store.proofs.TypedNodes.{shallow_stands}
 use Rattle.mode_vm.specs.IdealRuns.{IsOutcome}
-use Rattle.mode_vm.specs.StateCalls.{SpellsOutcome}
+use Rattle.ideal_meaning.specs.SpelledOutcomes.{SpellsOutcome}
 
 module _ (hash : Hash) (types : Types) (nodes : List Node) (t : Ty) (r : Outcome Ref) where
   abbrev Stands : ℕ → Value → Type 0

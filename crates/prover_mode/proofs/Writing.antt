@@ -4,7 +4,7 @@ use Rattle.std.specs.Int.{w16, w32, to_be_bytes}
 use Rattle.ideal_meaning.specs.Frames.{Frame, New, Use, place_of, frame_at, honest_frames, frame_bytes}
 use Rattle.ideal_meaning.specs.Following.{after_frames}
 use Rattle.reuse_buffer.specs.Kept.{Kept, kept}
-use Rattle.prover_mode.specs.Counts.{again_in, fresh_in}
+use Rattle.ideal_meaning.specs.RunFrames.{again_in, fresh_in}
 use Rattle.prover_mode.specs.Written.{HasWritten}
 use Rattle.prover_mode.specs.declared.frames.FrameWriter.{FrameWriter}
 

@@ -5,15 +5,10 @@ use Rattle.core_terms.specs.Projection.{projection}
 use Rattle.core_terms.specs.Roles.{argument_type}
 use Rattle.core_terms.specs.Spelling.{spelling}
 use Rattle.core_terms.specs.Terms.{Program, function_at}
-use Rattle.core_terms.specs.Values.{Value, Values}
+use Rattle.core_terms.specs.Values.{Value}
 use Rattle.ideal_meaning.specs.Checked.{Accepted, verdict}
-use Rattle.ideal_meaning.specs.Frames.{Frame, honest_frames}
 use Rattle.ideal_meaning.specs.Headline.{call_of}
 use Rattle.ideal_meaning.specs.Ideal as ideal
-
--- the frames of an honest prover for a run of function f, with a ring of n; `recent` came before, the last one first
-abbrev pub run_frames : Hash → Program → (f : ℕ) → Values → (k : ℕ) → (n : ℕ) → (recent : List (List ℕ)) → List Frame
-run_frames hash P f args k n recent = honest_frames n recent (ideal.bytes_of (ideal.honest_pieces hash P f args k))
 
 -- The verdict on these bytes of a proof file, for a call of function f with fuel k, given the spellings of the projected state and
 -- argument alone: it is accepted with the projection of the ideal outcome.

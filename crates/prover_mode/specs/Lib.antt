@@ -1,5 +1,4 @@
 pub mod Seen
-pub mod Counts
 pub mod Written
 pub mod Calls
 pub mod Told

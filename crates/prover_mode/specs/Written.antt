@@ -3,7 +3,7 @@ use Rattle.std.specs.Prelude.{◌≡◌, ◌<◌, ◌≤◌, ℕ, List, length, 
 use Rattle.ideal_meaning.specs.Frames.{frame_bytes, honest_frames}
 use Rattle.ideal_meaning.specs.Following.{after_frames}
 use Rattle.reuse_buffer.specs.Kept.{kept}
-use Rattle.prover_mode.specs.Counts.{again_in, fresh_in}
+use Rattle.ideal_meaning.specs.RunFrames.{again_in, fresh_in}
 use Rattle.prover_mode.specs.declared.frames.FrameWriter.{FrameWriter}
 
 -- The honest frames of these pieces were written, with a ring of n; `recent` came before, the last one first.

@@ -12,9 +12,10 @@ ghost use Rattle.value_store.specs.Markings.{HasLimit};
 ghost use Rattle.value_store.specs.Standing.{Keeps, ProverNodes};
 ghost use Rattle.mode_vm.specs.IdealRuns.{IsOutcome};
 ghost use Rattle.mode_vm.specs.Meanings.{program_of};
-ghost use Rattle.mode_vm.specs.StateCalls.{IsCalledOn, SpellsOutcome, TakesState};
-ghost use Rattle.prover_mode.specs.Calls.{IsAccepted, run_frames};
-ghost use Rattle.prover_mode.specs.Counts.{again_in, fresh_in};
+ghost use Rattle.mode_vm.specs.StateCalls.{IsCalledOn, TakesState};
+ghost use Rattle.ideal_meaning.specs.SpelledOutcomes.{SpellsOutcome};
+ghost use Rattle.prover_mode.specs.Calls.{IsAccepted};
+ghost use Rattle.ideal_meaning.specs.RunFrames.{run_frames, again_in, fresh_in};
 
 use crate::proving::{Proved, prove};
 use code_gen::Code;

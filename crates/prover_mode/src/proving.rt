@@ -10,8 +10,9 @@ ghost use Rattle.value_store.specs.Standing.{Keeps, ProverNodes};
 ghost use Rattle.mode_vm.specs.IdealRuns.{IsOutcome};
 ghost use Rattle.mode_vm.specs.Meanings.{program_of};
 ghost use Rattle.reuse_buffer.specs.Kept.{kept};
-ghost use Rattle.mode_vm.specs.StateCalls.{IsCalledOn, SpellsOutcome, TakesState};
-ghost use Rattle.prover_mode.specs.Calls.{run_frames};
+ghost use Rattle.mode_vm.specs.StateCalls.{IsCalledOn, TakesState};
+ghost use Rattle.ideal_meaning.specs.SpelledOutcomes.{SpellsOutcome};
+ghost use Rattle.ideal_meaning.specs.RunFrames.{run_frames};
 ghost use Rattle.prover_mode.specs.Told.{TellsFrames};
 
 use crate::spelling::spelled_outcome;

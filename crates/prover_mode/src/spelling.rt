@@ -7,7 +7,7 @@ ghost use Rattle.ideal_meaning.specs.Ideal as ideal;
 ghost use Rattle.value_store.specs.Markings.{HasLimit};
 ghost use Rattle.value_store.specs.Standing.{ProverNodes};
 ghost use Rattle.mode_vm.specs.IdealRuns.{IsOutcome};
-ghost use Rattle.mode_vm.specs.StateCalls.{SpellsOutcome};
+ghost use Rattle.ideal_meaning.specs.SpelledOutcomes.{SpellsOutcome};
 
 use core_terms::{Hash32, Outcome, Spelling, TyId, Types};
 use shallow_codec::spell;

@@ -9,7 +9,7 @@ ghost use Rattle.value_store.specs.Standing.{Keeps};
 ghost use Rattle.mode_vm.specs.Meanings.{program_of};
 ghost use Rattle.mode_vm.specs.StateCalls.{IsCalledOn, TakesState};
 ghost use Rattle.reuse_buffer.specs.Kept.{kept};
-ghost use Rattle.prover_mode.specs.Calls.{run_frames};
+ghost use Rattle.ideal_meaning.specs.RunFrames.{run_frames};
 ghost use Rattle.prover_mode.specs.Told.{TellsFrames};
 
 use crate::frames::{FrameWriter, write_frames};

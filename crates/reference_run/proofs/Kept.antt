@@ -6,7 +6,8 @@ use Rattle.std.proofs.lemmas.Str.{IsUtf8-append}
 use Rattle.core_terms.specs.Types.{Ty, BoolTy, IntTy, TextTy, PairTy, NamedTy, AuthTy, VecTy, fields_at, item_types}
 use Rattle.core_terms.specs.Formats.{IsFormat, depth_limit}
 use Rattle.core_terms.specs.Values.{Value, UnitV, BoolV, IntV, TextV, PairV, ConV, ItemsV, Values, NoV, AndV, AreIdeal, AuthWithinAll, int_fits, size, depth}
-use Rattle.core_terms.specs.Terms.{Expression, UnitE, BoolE, IntE, TextE, LocalE, PairE, FstE, SndE, NotE, LenE, AuthE, UnauthE, ConE, ArithE, CompareE, TextCompareE, CatE, LetE, IfE, MatchE, CallE, OperateE, Operation, VecFill, VecGet, VecPut, operand_types, result_type, Expressions, NoE, AndE, Arms, NoArm, AndArm, Function, no_function, OnFunction, Program, function_at, HasType, HaveTypes, HaveArms, IsWrittenWell}
+use Rattle.core_terms.specs.Terms.{Expression, UnitE, BoolE, IntE, TextE, LocalE, PairE, FstE, SndE, NotE, LenE, AuthE, UnauthE, ConE, ArithE, CompareE, TextCompareE, CatE, LetE, IfE, MatchE, CallE, OperateE, Operation, VecFill, VecGet, VecPut, operand_types, result_type, Expressions, NoE, AndE, Arms, NoArm, AndArm, Function, no_function, Program, function_at}
+use Rattle.core_terms.specs.TypingRules.{OnFunction, HasType, HaveTypes, HaveArms, IsWrittenWell}
 use Rattle.core_terms.specs.Projection.{AllFit}
 use Rattle.core_terms.specs.declared.term.Arith.{Arith}
 use Rattle.core_terms.specs.declared.term.Arith.TheVariants.{Add, Sub, Mul, Div, Rem}

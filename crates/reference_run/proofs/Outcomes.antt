@@ -3,7 +3,8 @@ use Rattle.std.proofs.Common.{◌≡◌, ℕ, [], map, None, Result, Ok, Err, re
 use Rattle.std.specs.declared.alloc.Global.{Global}
 use Rattle.core_terms.specs.Values.{Value, Values}
 use Rattle.core_terms.specs.Terms as tree
-use Rattle.core_terms.specs.Terms.{function_at, IsTypedAs}
+use Rattle.core_terms.specs.Terms.{function_at}
+use Rattle.core_terms.specs.TypingRules.{IsTypedAs}
 use Rattle.core_terms.specs.Programs.{meaning, types_of}
 use Rattle.core_terms.specs.ProgramTrees.{function_of}
 use Rattle.core_terms.specs.declared.program.Program.{Program}

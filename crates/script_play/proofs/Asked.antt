@@ -13,7 +13,8 @@ use Rattle.ask_core.specs.Replies.{step_taken}
 use Rattle.ask_core.specs.declared.told.AskFault.{AskFault}
 use Rattle.ask_core.specs.declared.told.AskFault.TheVariants.{BadState, BadArgument, OutOfTurn, Rejected, Stranger, WrongReply, Failed, Broken, Closed, NoMemory as NoAskMemory}
 use Rattle.script_play.specs.Plays.{Deed, Sends, Tells, Play, asked_play, asks, behind, goes_behind, if_goes, rests}
-use Rattle.script_play.specs.Playing.{Answers, AreComing, BreaksOff, IsAnswered, IsTelling, IsTold, PlaysAs, SendsRequest, World, done, is_sending, world}
+use Rattle.script_play.specs.Playing.{AreComing, BreaksOff, PlaysAs, SendsRequest, World, done, world}
+use Rattle.script_play.specs.PlayingInCode.{Answers, IsAnswered, IsTelling, IsTold, is_sending}
 use Rattle.script_play.specs.declared.halt.Halt.{Halt}
 use Rattle.script_play.specs.declared.halt.Halt.TheVariants.{Ended, LinkFault, WriteFault, NoMemory}
 use Rattle.script_play.specs.declared.telling.Telling.{Telling}

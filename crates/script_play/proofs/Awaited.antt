@@ -1,19 +1,22 @@
 -- Requests that are sent before a reply is waited for: for the clauses `prompt`.
 use Rattle.std.proofs.Common.{◌≡◌, ◌∙◌, ℕ, Bool, true, List, [], ◌∷◌, ◌++◌, take, drop, Option, Some, inl, inr, refl, sym, ap, append_assoc}
 use Rattle.std.proofs.lemmas.List.{take-append-drop}
-use Rattle.lam_outside.specs.Moments.{AtEachRead, Moment}
+use Rattle.lam_outside.specs.Moments.{Moment}
+use Rattle.lam_outside.specs.LinkSteps.{AtEachRead}
 use Rattle.lam_outside.proofs.Waiting.{none_read, reads_on, reads_weaken}
 use Rattle.std.specs.Io.KnownBytes.{append_known}
 use Rattle.core_terms.specs.Formats.{Hash}
 use Rattle.core_terms.specs.Terms.{Program}
 use Rattle.printed_syntax.specs.Literals.{ConstructorNames}
 use Rattle.session_meaning.specs.Client as meant
-use Rattle.session_meaning.specs.Messages.{AtEnd, IsCut, Messages, NoMore, Reply, messages, read_reply, reply_of}
+use Rattle.session_meaning.specs.Messages.{AtEnd, IsCut, Messages, NoMore, Reply, messages, reply_of}
+use Rattle.session_meaning.specs.MessageFields.{read_reply}
 use Rattle.session_meaning.proofs.WholeMessages.{replies_stop}
 use Rattle.wire_form.specs.ReadMessages.{StopsShort}
 use Rattle.wire_form.specs.Waits.{WaitsInside}
 use Rattle.wire_form.proofs.Coming.{short_read}
-use Rattle.script_play.specs.Halting.{TakesNone, TakesSoFar}
+use Rattle.script_play.specs.Halting.{TakesNone}
+use Rattle.script_play.specs.HaltingInCode.{TakesSoFar}
 use Rattle.script_play.specs.DeedLines.{bytes_sent}
 use Rattle.script_play.specs.Playing.{World, done}
 use Rattle.script_play.specs.Plays.{Deed, Play, Stops, behind, ends, if_goes, if_waiting, take_replies, then_play}

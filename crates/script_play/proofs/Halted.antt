@@ -8,7 +8,8 @@ use Rattle.core_terms.specs.Formats.{Hash}
 use Rattle.core_terms.specs.Terms.{Program}
 use Rattle.printed_syntax.specs.Literals.{ConstructorNames}
 use Rattle.session_meaning.specs.Client as meant
-use Rattle.session_meaning.specs.Messages.{AtEnd, BadMessage as BadMessageOf, Got, IsCut, Messages, NoMore, Read, Reply, Stop, Stops as Stopped, Then, TooLong as TooLongOf, goes_on, left_by, messages, read_reply, reply_of}
+use Rattle.session_meaning.specs.Messages.{AtEnd, BadMessage as BadMessageOf, Got, IsCut, Messages, NoMore, Read, Reply, Stop, Stops as Stopped, Then, TooLong as TooLongOf, goes_on, left_by, messages, reply_of}
+use Rattle.session_meaning.specs.MessageFields.{read_reply}
 use Rattle.session_meaning.proofs.OnlyMessages.{messages_go_on}
 use Rattle.session_meaning.proofs.WholeMessages.{message_long, message_read, message_refused, replies_stop}
 use Rattle.wire_form.specs.MessageViews.{reply_meant}
@@ -17,8 +18,10 @@ use Rattle.wire_form.specs.Incoming.{length_field}
 use Rattle.wire_form.specs.declared.message.ReadStop.{ReadStop}
 use Rattle.wire_form.specs.declared.message.ReadStop.TheVariants.{BadMessage, Cut, End, LinkFault as FailsToRead, NoMemory as LacksMemory, TooLong}
 use Rattle.script_play.specs.DeedLines.{deed_bytes, deed_line, stop_line}
-use Rattle.script_play.specs.Halting.{FailsOn, HaltsAt, HaltsOn, IsLeast, IsWhole, PlaysTo, StopsWithin, TakesNext, TakesNone, TakesSoFar, TakesTold}
-use Rattle.script_play.specs.Playing.{IsTelling, IsTold, World, done, take_one, world}
+use Rattle.script_play.specs.Halting.{HaltsAt, IsLeast, StopsWithin, TakesNone}
+use Rattle.script_play.specs.HaltingInCode.{FailsOn, HaltsOn, IsWhole, PlaysTo, TakesNext, TakesSoFar, TakesTold}
+use Rattle.script_play.specs.Playing.{World, done, world}
+use Rattle.script_play.specs.PlayingInCode.{IsTelling, IsTold, take_one}
 use Rattle.script_play.specs.Plays.{Deed, Play, Stops, behind, goes_behind, hears, if_goes, rests, then_play, told_of}
 use Rattle.script_play.specs.Tellings.{IsStop, IsStopTold}
 use Rattle.script_play.specs.declared.halt.Halt.{Halt}

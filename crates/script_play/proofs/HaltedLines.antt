@@ -3,16 +3,19 @@
 use Rattle.std.proofs.Common.{◌≡◌, ℕ, Bool, true, false, List, [], ◌∷◌, ◌++◌, take, Option, Some, Result, Ok, Err, refl, sym, ap, ◌∙◌, subst}
 use Rattle.std.specs.Io.KnownBytes.{append_known}
 use Rattle.lam_outside.proofs.Moved.{append_none}
-use Rattle.lam_outside.specs.Moments.{AtEachRead, Moment}
+use Rattle.lam_outside.specs.Moments.{Moment}
+use Rattle.lam_outside.specs.LinkSteps.{AtEachRead}
 use Rattle.core_terms.specs.Formats.{Hash}
 use Rattle.core_terms.specs.Terms.{Program}
 use Rattle.printed_syntax.specs.Literals.{ConstructorNames}
 use Rattle.session_meaning.specs.Calls.{no_role}
 use Rattle.session_meaning.specs.Client as meant
 use Rattle.session_meaning.specs.Messages.{Go, Messages, Reply, Request, messages, reply_of, request_bytes}
-use Rattle.ask_core.specs.Sessions.{some_waits}
-use Rattle.script_play.specs.Halting.{HaltsAt, OnLinkFault, PlaysTo, TakesSoFar}
-use Rattle.script_play.specs.Playing.{FailsToWrite, PlaysAs, SendsRequest, World, done, is_sending, world}
+use Rattle.session_meaning.specs.Waiting.{some_waits}
+use Rattle.script_play.specs.Halting.{HaltsAt}
+use Rattle.script_play.specs.HaltingInCode.{OnLinkFault, PlaysTo, TakesSoFar}
+use Rattle.script_play.specs.Playing.{FailsToWrite, PlaysAs, SendsRequest, World, done, world}
+use Rattle.script_play.specs.PlayingInCode.{is_sending}
 use Rattle.script_play.specs.Plays.{Deed, Play, Sends, Tells, asked_play, asks, behind, goes_behind, if_goes, lets_run, most_rounds, rests, take_replies, then_play}
 use Rattle.script_play.specs.Prompt.{IsPromptOn}
 use Rattle.script_play.specs.declared.halt.Halt.{Halt}

@@ -12,7 +12,8 @@ use Rattle.session_meaning.specs.Client.{Answer, Asked, Known, Standing, Greetin
 use Rattle.session_meaning.specs.Messages.{Reply, Welcome, Proof, Stale, Refused, Closed, session_of}
 use Rattle.session_meaning.specs.Tables.{find}
 use Rattle.session_meaning.proofs.TableFacts.{find_put, find_remove}
-use Rattle.ask_core.specs.Sessions.{called_in, count_below, is_calling}
+use Rattle.ask_core.specs.Sessions.{count_below}
+use Rattle.session_meaning.specs.Waiting.{called_in, is_calling}
 use Rattle.script_play.specs.Plays.{deed_made, Tells, goes_behind, hears}
 use Rattle.script_play.specs.Tellings.{makes, makes_state, state_if}
 

@@ -7,7 +7,9 @@ use Rattle.mode_vm.specs.Meanings.{program_of}
 use Rattle.printed_syntax.specs.Literals.{ConstructorNames}
 use Rattle.session_meaning.specs.Client as meant
 use Rattle.session_meaning.specs.Messages as message
-use Rattle.session_meaning.specs.Messages.{Messages, NoMore, Then, Reply, Stop, Got, messages, read_reply, reply_of, session_of}
+use Rattle.session_meaning.specs.MessageFields as message_fields
+use Rattle.session_meaning.specs.Messages.{Messages, NoMore, Then, Reply, Stop, Got, messages, reply_of, session_of}
+use Rattle.session_meaning.specs.MessageFields.{read_reply}
 use Rattle.session_meaning.specs.Tables.{find}
 use Rattle.session_meaning.proofs.OnlyMessages.{messages_go_on}
 use Rattle.session_tables.specs.Tables.{rows_of}
@@ -25,7 +27,7 @@ use Rattle.ask_core.specs.declared.told.AskFault.{AskFault}
 use Rattle.ask_core.specs.declared.told.Told.{Told}
 use Rattle.script_play.specs.DeedLines.{answer_line}
 use Rattle.script_play.specs.Plays.{Stops, goes_behind, hears, told_of}
-use Rattle.script_play.specs.Playing.{IsTelling, take_one}
+use Rattle.script_play.specs.PlayingInCode.{IsTelling, take_one}
 use Rattle.script_play.specs.Tellings.{IsNext, IsStop, IsStopTold, OfAnswer, is_outcome, makes_state, state_if}
 use Rattle.script_play.specs.declared.halt.Halt.{Halt}
 use Rattle.script_play.specs.declared.telling.Telling.{Telling}
@@ -99,7 +101,7 @@ fewer_wait old new m m' is is' n l e f others =
     (λ k d. seen' k ∙ ap meant.is_waiting (others k d) ∙ sym (seen k))
 
 -- the number of a reply's session
-pub session_fits : (r : Reply) → message.HasReplyFields r → session_of r < 65536
+pub session_fits : (r : Reply) → message_fields.HasReplyFields r → session_of r < 65536
 session_fits (message.Welcome session) h = h.fits
 session_fits (message.Proof session frames) h = h.fits
 session_fits (message.Stale session state) h = h.fits

@@ -1,9 +1,10 @@
 -- Bytes of which none could be left out: for the clauses `halts`.
 use Rattle.std.proofs.Common.{inl, inr, ◌≡◌, ◌⊎◌, ℕ, List, [], ◌∷◌, ◌++◌, refl, sym, ap, ap₂, ◌∙◌}
 use Rattle.std.proofs.lemmas.List.{append-nil, append_assoc}
-use Rattle.session_meaning.specs.Messages.{Got, Messages, NoMore, Read, Reply, Stop, Stops, messages, read_reply, reply_of}
+use Rattle.session_meaning.specs.Messages.{Got, Messages, NoMore, Read, Reply, Stop, Stops, messages, reply_of}
+use Rattle.session_meaning.specs.MessageFields.{read_reply}
 use Rattle.session_meaning.proofs.WholeMessages.{message_read, replies_stop}
-use Rattle.script_play.specs.Halting.{IsWhole}
+use Rattle.script_play.specs.HaltingInCode.{IsWhole}
 
 -- a string with a last byte is not empty
 pub no_last : (before : List ℕ) (last : ℕ) → [] ≡ before ++ last ∷ [] → ⊥

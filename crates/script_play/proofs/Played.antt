@@ -7,7 +7,8 @@ use Rattle.core_terms.specs.Terms.{Program}
 use Rattle.mode_vm.specs.Meanings.{program_of}
 use Rattle.printed_syntax.specs.Literals.{ConstructorNames}
 use Rattle.session_meaning.specs.Client as meant
-use Rattle.session_meaning.specs.Messages.{Messages, Reply, Go, IsRequest, request_bytes}
+use Rattle.session_meaning.specs.Messages.{Messages, Reply, Go, request_bytes}
+use Rattle.session_meaning.specs.MessageFields.{IsRequest}
 use Rattle.session_meaning.specs.ReplyLaws.{IsAsk}
 use Rattle.session_meaning.proofs.RequestsFit.{requests_are_sent}
 use Rattle.session_tables.specs.Tables.{rows_of}
@@ -16,13 +17,15 @@ use Rattle.wire_form.specs.MovedBytes.{Moves}
 use Rattle.wire_form.specs.declared.message.Request.{Request as AskedRequest}
 use Rattle.ask_core.specs.Answers.{Asks}
 use Rattle.ask_core.specs.Clients.{IsClient}
-use Rattle.ask_core.specs.Sessions.{StandsFor, StandsForSome, some_waits}
+use Rattle.ask_core.specs.Sessions.{StandsFor, StandsForSome}
+use Rattle.session_meaning.specs.Waiting.{some_waits}
 use Rattle.ask_core.specs.declared.client.AskCore.{AskCore}
 use Rattle.ask_core.specs.declared.told.AskFault.{AskFault}
 use Rattle.ask_script.specs.ScriptAnswers.{step_meant}
 use Rattle.ask_script.specs.declared.step.Step.{Step}
 use Rattle.script_play.specs.Plays.{Sends, Play, asked_play, asks, behind, lets_run, most_rounds, play, play_step, rests, take_replies, then_play}
-use Rattle.script_play.specs.Playing.{Answers, PlaysAs, SendsRequest, World, done, is_sending, world}
+use Rattle.script_play.specs.Playing.{PlaysAs, SendsRequest, World, done, world}
+use Rattle.script_play.specs.PlayingInCode.{Answers, is_sending}
 use Rattle.script_play.specs.declared.halt.Halt.{Halt}
 use Rattle.script_play.proofs.Asked.{asks_answers, plays_err, sent_world, unsent_plays}
 use Rattle.lam_outside.proofs.Moved.{append_none}

@@ -11,7 +11,8 @@ use Rattle.session_meaning.specs.Client as meant
 use Rattle.session_meaning.specs.Messages.{Messages, Reply}
 use Rattle.script_play.specs.DeedLines.{deed_bytes, deed_line}
 use Rattle.script_play.specs.Plays.{Deed, Play, behind, if_goes, rests}
-use Rattle.script_play.specs.Playing.{AreComing, IsCutShort, IsTelling, IsTold, PlayCause, PlaysAs, World, done, take_one, world}
+use Rattle.script_play.specs.Playing.{AreComing, PlaysAs, World, done, world}
+use Rattle.script_play.specs.PlayingInCode.{IsCutShort, IsTelling, IsTold, PlayCause, take_one}
 use Rattle.script_play.specs.Tellings.{IsNext}
 use Rattle.script_play.specs.declared.halt.Halt.{Halt}
 use Rattle.script_play.specs.declared.halt.Halt.TheVariants.{Ended, LinkFault, WriteFault, NoMemory}

@@ -15,7 +15,7 @@ use Rattle.core_terms.specs.declared.byte_string.ByteString.{ByteString as Spell
 use Rattle.core_terms.specs.declared.roles.RoleKind.{RoleKind}
 use Rattle.core_terms.specs.declared.roles.RoleKind.TheVariants as role_kind
 use Rattle.ideal_meaning.specs.Ideal as ideal
-use Rattle.mode_vm.specs.StateCalls.{SpellsOutcome}
+use Rattle.ideal_meaning.specs.SpelledOutcomes.{SpellsOutcome}
 use Rattle.printed_lines.specs.Lines.{named_done_line}
 use Rattle.printed_syntax.specs.Literals.{ConstructorNames}
 use Rattle.printed_lines.specs.SessionLines.{session_line}
@@ -25,7 +25,8 @@ use Rattle.wire_form.specs.declared.message.ReadStop.{ReadStop}
 use Rattle.wire_form.specs.declared.message.ReadStop.TheVariants as stop
 use Rattle.ask_core.specs.Answers.{fault_told}
 use Rattle.ask_core.specs.Replies.{IsAnswer, called_type}
-use Rattle.ask_core.specs.Sessions.{IsCalledRole, called_in, is_calling}
+use Rattle.ask_core.specs.Sessions.{IsCalledRole}
+use Rattle.session_meaning.specs.Waiting.{called_in, is_calling}
 use Rattle.ask_core.specs.declared.seen.CalledRole.{CalledRole}
 use Rattle.ask_core.specs.declared.told.AskFault.{AskFault}
 use Rattle.ask_core.specs.declared.told.AskFault.TheVariants as ask_fault

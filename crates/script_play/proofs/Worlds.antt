@@ -12,7 +12,8 @@ use Rattle.session_meaning.specs.Client as meant
 use Rattle.session_meaning.specs.Messages.{Messages, NoMore, Then, Reply}
 use Rattle.script_play.specs.DeedLines.{bytes_sent, deed_bytes, deed_line, lines_told}
 use Rattle.script_play.specs.Plays.{Deed, Stops, Play, behind, deed_made, ends, goes_behind, hears, if_goes, if_waiting, made_last, rests, take_replies, then_play, told_of}
-use Rattle.script_play.specs.Playing.{AreComing, BreaksOff, FailsToWrite, PlaysAs, World, done, first_sent, take_one, world}
+use Rattle.script_play.specs.Playing.{AreComing, BreaksOff, FailsToWrite, PlaysAs, World, done, first_sent, world}
+use Rattle.script_play.specs.PlayingInCode.{take_one}
 use Rattle.script_play.specs.declared.halt.Halt.{Halt}
 use Rattle.script_play.specs.declared.halt.Halt.TheVariants.{Ended, LinkFault, WriteFault, NoMemory}
 

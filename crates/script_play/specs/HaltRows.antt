@@ -9,9 +9,11 @@ use Rattle.session_meaning.specs.Client as meant
 use Rattle.session_meaning.specs.MessageRows.{text_digest}
 use Rattle.session_meaning.specs.Messages.{Hello, Welcome, IsCut, Messages, NoMore, Reply, Stop, Then, messages, reply_bytes, reply_of, request_bytes}
 use Rattle.ask_script.specs.Scripts.{Opens}
-use Rattle.script_play.specs.Halting.{BreaksAt, BreaksOn, FailsAt, FailsOn, HaltsAt, HaltsOn, IsLeast, IsWhole, OnLinkFault, PlaysTo, TakesNext, TakesNone, TakesReply, TakesSoFar, TakesTold}
+use Rattle.script_play.specs.Halting.{BreaksAt, FailsAt, HaltsAt, IsLeast, TakesNone}
+use Rattle.script_play.specs.HaltingInCode.{BreaksOn, FailsOn, HaltsOn, IsWhole, OnLinkFault, PlaysTo, TakesNext, TakesReply, TakesSoFar, TakesTold}
 use Rattle.script_play.specs.PlayRows.{no_names, played, state}
-use Rattle.script_play.specs.Playing.{IsTelling, World, done, take_one, world}
+use Rattle.script_play.specs.Playing.{World, done, world}
+use Rattle.script_play.specs.PlayingInCode.{IsTelling, take_one}
 use Rattle.script_play.specs.Plays.{Play, Sends, Stops, behind, goes_behind, hears, rests, told_of}
 use Rattle.script_play.specs.Prompt.{WaitsForReply}
 use Rattle.script_play.specs.declared.halt.Halt.{Halt}

@@ -10,7 +10,8 @@ use Rattle.session_meaning.specs.Client.{Answer}
 use Rattle.session_meaning.specs.Messages.{AtEnd, IsCut, TooLong, BadMessage, Request, request_bytes}
 use Rattle.lam_outside.specs.Causes.{Rose}
 use Rattle.script_play.specs.Halting.{IsUnmet}
-use Rattle.script_play.specs.Playing.{BreaksOff, FailsToWrite, IsCutShort, PlayCause, PlaysAs, SendsRequest, World}
+use Rattle.script_play.specs.Playing.{BreaksOff, FailsToWrite, PlaysAs, SendsRequest, World}
+use Rattle.script_play.specs.PlayingInCode.{IsCutShort, PlayCause}
 use Rattle.script_play.specs.Plays.{Play, Sends, Tells, Stops}
 use Rattle.script_play.specs.declared.halt.Halt.TheVariants.{Ended, LinkFault, WriteFault, NoMemory}
 

@@ -10,3 +10,5 @@ pub mod LawRows
 pub mod Prompt
 pub mod Tellings
 pub mod ToldRows
+pub mod HaltingInCode
+pub mod PlayingInCode

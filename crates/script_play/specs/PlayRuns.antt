@@ -4,7 +4,8 @@ use Rattle.std.specs.List.{All, flat_map}
 use Rattle.core_terms.specs.Formats.{Hash, IsFormat, IsHash}
 use Rattle.core_terms.specs.Projection.{projection}
 use Rattle.core_terms.specs.Spelling.{spelling}
-use Rattle.core_terms.specs.Terms.{IsTyped, Program}
+use Rattle.core_terms.specs.Terms.{Program}
+use Rattle.core_terms.specs.TypingRules.{IsTyped}
 use Rattle.core_terms.specs.Typing.{is_shaped}
 use Rattle.core_terms.specs.Values.{IsIdeal, Value}
 use Rattle.session_meaning.specs.Calls.{no_role}
@@ -13,7 +14,7 @@ use Rattle.session_meaning.specs.Client.{Answer, Client, Event, Hears, Known, ne
 use Rattle.session_meaning.specs.ClientLaws.{BeginsWith, TrueUpToSplit, event_session, told_calls}
 use Rattle.session_meaning.specs.Messages.{Go, Messages, Reply, Then, session_of}
 use Rattle.session_meaning.specs.Tables.{find}
-use Rattle.ask_core.specs.Sessions.{called_in}
+use Rattle.session_meaning.specs.Waiting.{called_in}
 use Rattle.ask_script.specs.Scripts.{HasByteArgument, UserStep}
 use Rattle.script_play.specs.Plays.{Deed, Sends, Tells, Stops, play}
 

@@ -10,7 +10,7 @@ use Rattle.session_meaning.specs.Client as client
 use Rattle.session_meaning.specs.Client.{Answer, Client, Taken, take_event, waits}
 use Rattle.session_meaning.specs.Messages.{Messages, NoMore, Then, Reply, Request, Go, Stop, session_of}
 use Rattle.session_meaning.specs.Tables.{find}
-use Rattle.ask_core.specs.Sessions.{called_in, some_calls, some_waits}
+use Rattle.session_meaning.specs.Waiting.{called_in, some_calls, some_waits}
 use Rattle.ask_script.specs.Scripts.{UserStep, Opens, Calls, Goes, Closes}
 
 -- What is done: a request is sent; what the client answers is told, with the session that it is for and the role that this session

@@ -16,14 +16,16 @@ use Rattle.wire_form.specs.declared.message.ReadStop.{ReadStop}
 use Rattle.wire_form.specs.declared.message.ReadStop.TheVariants as stop
 use Rattle.ask_core.specs.Answers.{fault_told}
 use Rattle.ask_core.specs.Replies.{IsAnswer, called_type}
-use Rattle.ask_core.specs.Sessions.{IsCalledRole, called_in}
+use Rattle.ask_core.specs.Sessions.{IsCalledRole}
+use Rattle.session_meaning.specs.Waiting.{called_in}
 use Rattle.ask_core.specs.declared.seen.CalledRole.{CalledRole}
 use Rattle.ask_core.specs.declared.told.AskFault.{AskFault}
 use Rattle.ask_core.specs.declared.told.Told.{Told}
 use Rattle.ask_core.specs.declared.told.Told.TheVariants.{Outcome as TellsOutcome}
 use Rattle.script_play.specs.DeedLines.{deed_bytes, stop_line}
 use Rattle.script_play.specs.Plays.{Deed, behind, goes_behind, if_goes, rests}
-use Rattle.script_play.specs.Playing.{AreComing, IsTelling, take_one}
+use Rattle.script_play.specs.Playing.{AreComing}
+use Rattle.script_play.specs.PlayingInCode.{IsTelling, take_one}
 use Rattle.script_play.specs.declared.halt.Halt.{Halt}
 use Rattle.script_play.specs.declared.halt.Halt.TheVariants.{Ended, LinkFault, WriteFault, NoMemory}
 use Rattle.script_play.specs.declared.telling.Telling.{Telling}

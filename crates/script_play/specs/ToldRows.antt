@@ -37,7 +37,8 @@ use Rattle.wire_form.specs.declared.message.Request.{Request as AskedRequest}
 use Rattle.printed_lines.specs.Lines.{out_line}
 use Rattle.printed_syntax.specs.Literals.{ConstructorNames}
 use Rattle.ask_core.specs.Replies.{IsAnswer, called_type}
-use Rattle.ask_core.specs.Sessions.{IsCalledRole, called_in}
+use Rattle.ask_core.specs.Sessions.{IsCalledRole}
+use Rattle.session_meaning.specs.Waiting.{called_in}
 use Rattle.ask_core.specs.declared.seen.CalledRole.{CalledRole}
 use Rattle.ask_core.specs.declared.told.AskFault.{AskFault}
 use Rattle.ask_core.specs.declared.told.AskFault.TheVariants.{BadState, BadArgument, OutOfTurn, Rejected, Stranger, WrongReply, Failed, Broken, Closed, NoMemory as NoAskMemory}
@@ -47,7 +48,8 @@ use Rattle.ask_script.specs.Scripts.{Opens}
 use Rattle.script_play.specs.DeedLines.{answer_line, deed_bytes, deed_line, outcome_line}
 use Rattle.script_play.specs.PlayRows.{no_names, played, state}
 use Rattle.script_play.specs.PlayRuns.{Follows, TellsTruth, begin_with, client_behind, replies_heard}
-use Rattle.script_play.specs.Playing.{Answers, AreComing, BreaksOff, FailsToWrite, IsAnswered, IsTelling, IsTold, PlayCause, PlaysAs, SendsRequest, World, is_sending, take_one, waits_for, world}
+use Rattle.script_play.specs.Playing.{AreComing, BreaksOff, FailsToWrite, PlaysAs, SendsRequest, World, world}
+use Rattle.script_play.specs.PlayingInCode.{Answers, IsAnswered, IsTelling, IsTold, PlayCause, is_sending, take_one, waits_for}
 use Rattle.script_play.specs.Plays.{Deed, Play, Sends, Tells, behind, deed_made, if_goes, rests}
 use Rattle.script_play.specs.Tellings.{IsNext, IsStop, IsStopLine, IsStopTold, OfAnswer, called_updates, is_outcome, is_update, makes, makes_state, state_if, told_done, told_goes}
 use Rattle.script_play.specs.declared.halt.Halt.TheVariants.{Ended, LinkFault, WriteFault, NoMemory}

@@ -4,14 +4,14 @@ ghost use Rattle.core_terms.specs.Programs.{types_of};
 ghost use Rattle.code_gen.specs.Programs.{program_in};
 ghost use Rattle.mode_vm.specs.Meanings.{program_of};
 ghost use Rattle.session_meaning.specs.Client.{Client, Taken, state_of};
-ghost use Rattle.session_meaning.specs.Messages.{IsReply};
+ghost use Rattle.session_meaning.specs.MessageFields.{IsReply};
 ghost use Rattle.wire_form.specs.MessageViews.{reply_meant};
 ghost use Rattle.ask_core.specs.Answers.{fault_told};
 ghost use Rattle.ask_core.specs.Replies.{step_taken};
 ghost use Rattle.ask_core.specs.Sessions.{StandsFor, StandsForSome, sessions_waiting};
 ghost use Rattle.script_play.specs.DeedLines.{answer_line};
 ghost use Rattle.script_play.specs.Plays.{goes_behind, hears, told_of};
-ghost use Rattle.script_play.specs.Playing.{IsTelling, names_of, own_of};
+ghost use Rattle.script_play.specs.PlayingInCode.{IsTelling, names_of, own_of};
 ghost use Rattle.script_play.specs.Tellings.{OfAnswer, called_updates, is_outcome, makes_state, state_if, told_done, told_goes};
 
 use crate::lines::answer_line;

@@ -6,7 +6,7 @@ ghost use Rattle.core_terms.specs.Terms as tree;
 ghost use Rattle.core_terms.specs.TypeTables.{type_at};
 ghost use Rattle.core_terms.specs.Types.{Ty};
 ghost use Rattle.ideal_meaning.specs.Ideal as ideal;
-ghost use Rattle.mode_vm.specs.StateCalls.{SpellsOutcome};
+ghost use Rattle.ideal_meaning.specs.SpelledOutcomes.{SpellsOutcome};
 ghost use Rattle.printed_syntax.specs.Literals.{ConstructorNames};
 ghost use Rattle.session_meaning.specs.Client.{Taken};
 ghost use Rattle.ask_core.specs.Answers.{fault_told};

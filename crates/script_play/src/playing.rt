@@ -2,17 +2,20 @@
 ghost use Rattle.std.specs.Prelude.{◌≡◌, ℕ, List, Some, IfOk, length, map};
 ghost use Rattle.std.specs.List.{All};
 ghost use Rattle.mode_vm.specs.Meanings.{program_of};
-ghost use Rattle.lam_outside.specs.Moments.{AtEachRead};
+ghost use Rattle.lam_outside.specs.LinkSteps.{AtEachRead};
 ghost use Rattle.session_meaning.specs.Client.{Client, Taken, waits};
-ghost use Rattle.session_meaning.specs.Messages.{IsRequest, Messages, Reply};
+ghost use Rattle.session_meaning.specs.Messages.{Messages, Reply};
+ghost use Rattle.session_meaning.specs.MessageFields.{IsRequest};
 ghost use Rattle.wire_form.specs.MessageViews.{request_meant};
 ghost use Rattle.wire_form.specs.MovedBytes.{Moves};
-ghost use Rattle.ask_core.specs.Sessions.{StandsFor, StandsForSome, some_calls};
+ghost use Rattle.ask_core.specs.Sessions.{StandsFor, StandsForSome};
+ghost use Rattle.session_meaning.specs.Waiting.{some_calls};
 ghost use Rattle.ask_script.specs.ScriptAnswers.{step_meant};
 ghost use Rattle.ask_script.specs.Scripts.{Fits};
-ghost use Rattle.script_play.specs.Halting.{PlaysTo};
+ghost use Rattle.script_play.specs.HaltingInCode.{PlaysTo};
 ghost use Rattle.script_play.specs.Plays.{asked_play, lets_run, play, play_step, take_replies};
-ghost use Rattle.script_play.specs.Playing.{Answers, AreComing, PlayCause, PlaysAs, names_of, own_of, world};
+ghost use Rattle.script_play.specs.Playing.{AreComing, PlaysAs, world};
+ghost use Rattle.script_play.specs.PlayingInCode.{Answers, PlayCause, names_of, own_of};
 ghost use Rattle.script_play.specs.Prompt.{IsPromptOn};
 
 use crate::asking::{ask, send};

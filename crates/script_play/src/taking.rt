@@ -5,11 +5,12 @@ ghost use Rattle.session_meaning.specs.Client.{Client};
 ghost use Rattle.session_meaning.specs.Messages.{Messages, Reply};
 ghost use Rattle.wire_form.specs.MovedBytes.{Moves};
 ghost use Rattle.ask_core.specs.Sessions.{StandsFor, StandsForSome, sessions_waiting};
-ghost use Rattle.script_play.specs.Halting.{PlaysTo, TakesNext};
+ghost use Rattle.script_play.specs.HaltingInCode.{PlaysTo, TakesNext};
 ghost use Rattle.script_play.specs.Plays.{take_replies};
-ghost use Rattle.script_play.specs.Playing.{AreComing, IsCutShort, PlayCause, PlaysAs, names_of, own_of, take_one, waits_for, world};
+ghost use Rattle.script_play.specs.Playing.{AreComing, PlaysAs, world};
+ghost use Rattle.script_play.specs.PlayingInCode.{IsCutShort, PlayCause, names_of, own_of, take_one, waits_for};
 ghost use Rattle.std.specs.Option.{ForSome};
-ghost use Rattle.lam_outside.specs.Moments.{AtEachRead};
+ghost use Rattle.lam_outside.specs.LinkSteps.{AtEachRead};
 ghost use Rattle.script_play.specs.Prompt.{IsPromptOn, WaitsForReply};
 ghost use Rattle.script_play.specs.Tellings.{IsNext, IsStopTold};
 

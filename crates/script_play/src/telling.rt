@@ -15,7 +15,7 @@ pub struct Telling {
     pub goes_on: bool,
 }
 
-ghost use Rattle.script_play.specs.Playing.{IsTold, PlayCause};
+ghost use Rattle.script_play.specs.PlayingInCode.{IsTold, PlayCause};
 
 /// Tells: the state that was made is the one told last, from before the line is written on.
 pub fn tell<O: Sink>(out: &mut O, last: &mut Option<Spelling>, telling: Telling) -> Result<(), Halt>

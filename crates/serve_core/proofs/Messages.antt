@@ -2,9 +2,10 @@
 use Rattle.std.proofs.Common.{◌≡◌, ℕ, true, List, [], ◌∷◌, map, sym, subst}
 use Rattle.std.specs.List.{AllByRecursion}
 use Rattle.core_terms.specs.Formats.{Hash, IsFormat, IsHash}
-use Rattle.core_terms.specs.Terms.{IsTyped, Program}
+use Rattle.core_terms.specs.Terms.{Program}
+use Rattle.core_terms.specs.TypingRules.{IsTyped}
 use Rattle.core_terms.specs.Typing.{is_shaped}
-use Rattle.session_meaning.specs.Messages.{IsReply}
+use Rattle.session_meaning.specs.MessageFields.{IsReply}
 use Rattle.session_meaning.specs.ReplyLaws.{IsHeard}
 use Rattle.session_meaning.specs.Server as meant
 use Rattle.session_meaning.specs.Within.{IsStateWithin}

@@ -15,7 +15,7 @@ use Rattle.link_ends.specs.Halts.{halt_of}
 use Rattle.link_ends.specs.declared.halt.Halt.{Halt}
 use Rattle.link_ends.specs.declared.halt.Halt.TheVariants as halt
 use Rattle.serve_links.specs.Connections.{bytes_of}
-use Rattle.serve_links.specs.Histories.{HasServed, HasSameCode, own_digest, program_served, step_of, turns_of}
+use Rattle.serve_links.specs.HistoriesInCode.{HasServed, HasSameCode, own_digest, program_served, step_of, turns_of}
 use Rattle.serve_links.specs.Messages.{Answers, AnswersPart, BreaksOff, ComesNext, CountsMessage, HearsNext, IsStoppedAt, ServesMessage, StaysServing, asks}
 use Rattle.serve_links.proofs.Broken.{first_cut, first_part, first_stopped, none_cut, none_heard, over_at}
 use Rattle.serve_links.proofs.Serving.{open_counts, served_more}

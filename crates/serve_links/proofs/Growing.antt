@@ -9,7 +9,7 @@ use Rattle.session_meaning.specs.Server.{Session, Shared, Server as TheServer, H
 use Rattle.session_meaning.specs.Stopped.{IsStopped, Reaches, RoundReaches, RoundsReach}
 use Rattle.session_meaning.proofs.Keeping.{round_keeps}
 use Rattle.session_meaning.proofs.ServerRun.{only_updates_commit}
-use Rattle.session_turns.specs.Keepers.{IsFront}
+use Rattle.session_meaning.specs.Beginnings.{IsFront}
 use Rattle.serve_core.proofs.StoppedBehind.{reaches_whole}
 
 pub same_front : {A : Type 0} (xs : List A) → IsFront xs xs

@@ -21,7 +21,7 @@ use Rattle.mode_vm.specs.Meanings.{program_of}
 use Rattle.session_meaning.specs.Begun.{IsBegun}
 use Rattle.session_meaning.specs.Calls.{RoleCall, reads_state, role_in}
 use Rattle.session_meaning.specs.Server.{Shared}
-use Rattle.session_meaning.specs.ServerLaws.{IsHistory, Makes}
+use Rattle.session_meaning.specs.ServedHistories.{IsHistory, Makes}
 use Rattle.session_meaning.specs.Within.{IsCallWithin}
 use Rattle.session_meaning.proofs.ToldCalls.{reads_shape}
 use Rattle.session_turns.specs.Keepers.{AreKeepable, FitsRecord}

@@ -4,7 +4,8 @@ use Rattle.lam_outside.specs.Causes.{Rose}
 use Rattle.core_terms.specs.Formats.{Hash}
 use Rattle.session_meaning.specs.Server as meant
 use Rattle.session_meaning.specs.Server.{Server}
-use Rattle.session_turns.specs.Keepers.{HasStayed, IsFront, KeepsBetween, KeepsOn, MayHaveFailed}
+use Rattle.session_turns.specs.Keepers.{HasStayed, KeepsBetween, KeepsOn, MayHaveFailed}
+use Rattle.session_meaning.specs.Beginnings.{IsFront}
 use Rattle.session_turns.specs.Rows.{AreAlike}
 use Rattle.session_turns.specs.Sharing.{IsCommit}
 use Rattle.session_turns.specs.declared.commit.Commit.{Commit}
@@ -15,7 +16,7 @@ use Rattle.link_ends.specs.declared.end.ConnectionEnd.TheVariants as connection
 use Rattle.link_ends.specs.declared.halt.Halt.{Halt}
 use Rattle.link_ends.specs.declared.halt.Halt.TheVariants as halt
 use Rattle.serve_links.specs.Ends.{EndKeeperCause, KeepsAtEnd}
-use Rattle.serve_links.specs.Histories.{own_digest, program_served, step_of, turns_of}
+use Rattle.serve_links.specs.HistoriesInCode.{own_digest, program_served, step_of, turns_of}
 use Rattle.serve_links.specs.Messages.{StopCause}
 use Rattle.serve_links.proofs.Growing.{step_grows}
 use Rattle.serve_links.proofs.KeptCommits.{codes_grow, kept_at_stop, kept_whole, same_commits}

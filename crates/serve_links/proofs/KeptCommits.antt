@@ -1,7 +1,8 @@
 -- Commits that are kept, and calls that they are: for answer, serve_message and serve_link.
 use Rattle.std.proofs.Common.{◌≡◌, ℕ, ◌≤◌, List, [], ◌∷◌, ◌++◌, length, length-append, Bool, true, false, Result, Ok, Err, is_err, refl, sym, ap, subst, ◌∙◌, arith}
 use Rattle.session_meaning.specs.Calls.{RoleCall}
-use Rattle.session_turns.specs.Keepers.{IsFront, KeepsBetween, KeepsOn}
+use Rattle.session_turns.specs.Keepers.{KeepsBetween, KeepsOn}
+use Rattle.session_meaning.specs.Beginnings.{IsFront}
 use Rattle.session_turns.specs.Rows.{AreAlike}
 use Rattle.session_turns.specs.Sharing.{IsCommit}
 use Rattle.session_turns.specs.declared.commit.Commit.{Commit}

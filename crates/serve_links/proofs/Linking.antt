@@ -10,7 +10,8 @@ use Rattle.code_gen.specs.Programs.{program_in}
 use Rattle.mode_vm.specs.Meanings.{program_of}
 use Rattle.lam_outside.specs.Causes.{Rose}
 use Rattle.lam_outside.specs.Links.{Linked, links_so_far, IsMade}
-use Rattle.lam_outside.specs.Moments.{AtEachRead, Moment}
+use Rattle.lam_outside.specs.Moments.{Moment}
+use Rattle.lam_outside.specs.LinkSteps.{AtEachRead}
 use Rattle.session_meaning.specs.Calls.{RoleCall}
 use Rattle.session_meaning.specs.Server.{Server, last_turn}
 use Rattle.wire_form.specs.MovedBytes.{Moves}
@@ -24,10 +25,11 @@ use Rattle.link_ends.proofs.FaultsTold.{or_others}
 use Rattle.link_ends.proofs.OneMore.{are_more}
 use Rattle.link_ends.proofs.StandingLink.{all_stood, from_nothing, nothing_sent, told}
 use Rattle.serve_links.specs.Connections.{AnyKept, IsServed}
-use Rattle.serve_links.specs.Histories.{HasSameCode, own_digest, program_served, turns_of}
+use Rattle.serve_links.specs.HistoriesInCode.{HasSameCode, own_digest, program_served, turns_of}
 use Rattle.serve_links.specs.Messages.{Ends}
 use Rattle.serve_links.specs.Prompt.{IsPrompt}
-use Rattle.serve_links.specs.ServedLinks.{AreCounted, AreMoreInPart, AreMoreServed, AreServed, AreServedInPart, IsLinkServed, IsOneServed, IsOneWhole, IsServedOn, ServesNext}
+use Rattle.serve_links.specs.ServedLinks.{AreServed, AreServedInPart, IsLinkServed, IsServedOn}
+use Rattle.serve_links.specs.ServedLinksInCode.{AreCounted, AreMoreInPart, AreMoreServed, IsOneServed, IsOneWhole, ServesNext}
 
 module _ (hash : Hash) (Kept : (told made : List RoleCall) → Type 0) {A G : Type 0} (old new : ServeCore A G) (server : Server) (port : ℕ) where
   abbrev IsPromptOn : List ℕ → Option (List ℕ) → Moment → Type 0

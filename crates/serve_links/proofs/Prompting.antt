@@ -3,10 +3,12 @@ use Rattle.std.proofs.Common.{◌≡◌, ◌∙◌, ℕ, false, List, [], ◌∷
 use Rattle.std.specs.Io.KnownBytes.{append_known}
 use Rattle.core_terms.specs.Formats.{Hash}
 use Rattle.core_terms.specs.Terms.{Program}
-use Rattle.lam_outside.specs.Moments.{AtEachRead, Moment}
+use Rattle.lam_outside.specs.Moments.{Moment}
+use Rattle.lam_outside.specs.LinkSteps.{AtEachRead}
 use Rattle.lam_outside.proofs.Waiting.{reads_weaken}
 use Rattle.session_meaning.specs.Connections.{bytes_sent, if_closing, served}
-use Rattle.session_meaning.specs.Messages.{Request, Messages, NoMore, Then, AtEnd, IsCut, TooLong, BadMessage, messages, read_request, request_of}
+use Rattle.session_meaning.specs.Messages.{Request, Messages, NoMore, Then, AtEnd, IsCut, TooLong, BadMessage, messages, request_of}
+use Rattle.session_meaning.specs.MessageFields.{read_request}
 use Rattle.session_meaning.specs.Server.{Server, Hears, HearsBad, HearsEnd, handle}
 use Rattle.session_meaning.proofs.WholeMessages.{requests_stop}
 use Rattle.wire_form.specs.ReadMessages.{StopsShort}

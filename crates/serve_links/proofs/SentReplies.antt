@@ -5,7 +5,8 @@ use Rattle.std.proofs.lemmas.List.{take-append-le}
 use Rattle.std.specs.List.{AllByRecursion}
 use Rattle.std.specs.Io.KnownBytes.{append_known}
 use Rattle.lam_outside.proofs.Moved.{append_twice}
-use Rattle.session_meaning.specs.Messages.{IsReply, reply_bytes}
+use Rattle.session_meaning.specs.Messages.{reply_bytes}
+use Rattle.session_meaning.specs.MessageFields.{IsReply}
 use Rattle.wire_form.specs.MessageViews.{reply_meant}
 use Rattle.wire_form.specs.WrittenMessages.{Sends}
 use Rattle.wire_form.specs.declared.message.Reply.{Reply}

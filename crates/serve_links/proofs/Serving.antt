@@ -8,7 +8,8 @@ use Rattle.code_gen.specs.declared.code.Code.{Code}
 use Rattle.code_gen.specs.Programs.{program_in}
 use Rattle.mode_vm.specs.Meanings.{program_of}
 use Rattle.session_meaning.specs.Begun.{IsBegun}
-use Rattle.session_meaning.specs.Messages.{Hello, Call, Go, Bye, IsReply, Request}
+use Rattle.session_meaning.specs.Messages.{Hello, Call, Go, Bye, Request}
+use Rattle.session_meaning.specs.MessageFields.{IsReply}
 use Rattle.session_meaning.specs.Causes.{Refusal}
 use Rattle.session_meaning.specs.Tables.{find}
 use Rattle.session_meaning.specs.ReplyLaws.{IsHeard}
@@ -18,7 +19,8 @@ use Rattle.session_meaning.proofs.Begins.{servers_may_begin}
 use Rattle.session_meaning.proofs.RepliesFit.{replies_are_messages}
 use Rattle.serve_core.specs.Serving.{Serves}
 use Rattle.serve_core.specs.declared.server.ServeCore.{ServeCore}
-use Rattle.serve_links.specs.Histories.{HasHistory, HasServed, HasSameCode, own_digest, program_served, step_of, turns_of}
+use Rattle.serve_links.specs.Histories.{HasHistory}
+use Rattle.serve_links.specs.HistoriesInCode.{HasServed, HasSameCode, own_digest, program_served, step_of, turns_of}
 
 module _ (hash : Hash) (P : Program) (own : List ℕ) (ending : ℕ → ℕ) where
   after_more : (ms : List Heard) (m : Heard) (server : Server)

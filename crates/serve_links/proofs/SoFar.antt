@@ -16,11 +16,12 @@ use Rattle.link_ends.specs.declared.halt.Halt.{Halt}
 use Rattle.link_ends.specs.declared.halt.Halt.TheVariants as halt
 use Rattle.serve_links.specs.Connections.{IsServed, bytes_of, left_by_end}
 use Rattle.serve_links.specs.Ends.{IsBroken, StaysServer}
-use Rattle.serve_links.specs.Histories.{HasSameCode, HasServed, own_digest, program_served, step_of, turns_of}
+use Rattle.serve_links.specs.HistoriesInCode.{HasSameCode, HasServed, own_digest, program_served, step_of, turns_of}
 use Rattle.serve_links.specs.Messages.{BreaksOff, Ends, GoesOn, ServesMessage, StaysServing}
 use Rattle.serve_links.proofs.Broken.{goes_on}
 use Rattle.serve_links.proofs.Prompting.{prompt_now, replied_on}
-use Rattle.lam_outside.specs.Moments.{AtEachRead, Moment}
+use Rattle.lam_outside.specs.Moments.{Moment}
+use Rattle.lam_outside.specs.LinkSteps.{AtEachRead}
 use Rattle.lam_outside.proofs.Waiting.{reads_on, reads_weaken}
 use Rattle.session_meaning.specs.Connections.{bytes_sent}
 use Rattle.serve_links.specs.Prompt.{IsPrompt, WaitsForOne}

@@ -2,7 +2,8 @@
 use Rattle.std.proofs.Common.{inl, inr, ◌≡◌, ℕ, ◌+◌, List, [], ◌∷◌, take, drop, Option, Some, Err, refl, sym, ap, subst, ◌∙◌, append-nil}
 use Rattle.std.proofs.lemmas.List.{drop-drop}
 use Rattle.session_meaning.specs.Messages as meant
-use Rattle.session_meaning.specs.Messages.{Request as TheRequest, Got, NoMore, Stops, left_by, messages, read_request, request_of}
+use Rattle.session_meaning.specs.Messages.{Request as TheRequest, Got, NoMore, Stops, left_by, messages, request_of}
+use Rattle.session_meaning.specs.MessageFields.{read_request}
 use Rattle.session_meaning.specs.Server.{Hears, HearsBad, HearsEnd}
 use Rattle.session_meaning.proofs.WholeMessages.{message_long, message_refused, request_goes_on, requests_stop}
 use Rattle.wire_form.specs.Incoming.{length_field}

@@ -7,7 +7,7 @@ use Rattle.serve_core.specs.Serving.{Serves}
 use Rattle.serve_core.specs.declared.server.ServeCore.{ServeCore}
 use Rattle.link_ends.specs.declared.end.ConnectionEnd.{ConnectionEnd}
 use Rattle.link_ends.specs.declared.end.ConnectionEnd.TheVariants.{Over, LinkFault, Stopped}
-use Rattle.serve_links.specs.Histories.{HasServed}
+use Rattle.serve_links.specs.HistoriesInCode.{HasServed}
 
 -- The core goes on as a server with a history. Where it was stopped it is a server still.
 abbrev pub StaysServer : Hash → {A G : Type 0} → ServeCore A G → ConnectionEnd → Type 0

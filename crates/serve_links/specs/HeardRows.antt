@@ -22,7 +22,8 @@ use Rattle.serve_core.specs.declared.server.ServeCore.{ServeCore}
 use Rattle.link_ends.specs.declared.end.ConnectionEnd.TheVariants.{Over, Stopped}
 use Rattle.link_ends.specs.declared.halt.Halt.TheVariants as halt
 use Rattle.serve_links.specs.Connections.{IsBrokenOff, IsCutAt, bytes_of}
-use Rattle.serve_links.specs.Histories.{HasHistory, HasSameCode, HasServed, own_digest, program_served, step_of, turns_of}
+use Rattle.serve_links.specs.Histories.{HasHistory}
+use Rattle.serve_links.specs.HistoriesInCode.{HasSameCode, HasServed, own_digest, program_served, step_of, turns_of}
 use Rattle.serve_links.specs.Messages.{Answers, AnswersKept, AnswersPart, BreaksOff, ComesNext, CountsMessage, Ends, GoesOn, HearsNext, IsHeardOf, IsReadAs, IsStoppedAt, ServesMessage, StaysServing}
 use Rattle.serve_links.specs.Prompt.{WaitsForOne}
 

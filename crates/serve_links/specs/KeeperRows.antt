@@ -8,7 +8,8 @@ use Rattle.session_meaning.specs.Calls.{RoleCall}
 use Rattle.session_meaning.specs.HistoryRows.{flips, flipped}
 use Rattle.session_meaning.specs.MessageRows.{text_digest}
 use Rattle.session_meaning.specs.Server.{Heard, HearsEnd, begun_server, last_turn, server_after}
-use Rattle.session_turns.specs.Keepers.{AreKeepable, FitsRecord, HasStayed, IsFront, KeepCause, KeepsBetween, KeepsOn, MayHaveFailed}
+use Rattle.session_turns.specs.Keepers.{AreKeepable, FitsRecord, HasStayed, KeepCause, KeepsBetween, KeepsOn, MayHaveFailed}
+use Rattle.session_meaning.specs.Beginnings.{IsFront}
 use Rattle.session_turns.specs.Rows.{AreAlike}
 use Rattle.session_turns.specs.Sharing.{IsCommit}
 use Rattle.session_turns.specs.declared.commit.Commit.{Commit}
@@ -18,7 +19,7 @@ use Rattle.link_ends.specs.declared.halt.Halt.TheVariants as halt
 use Rattle.serve_links.specs.Connections.{IsServed}
 use Rattle.serve_links.specs.Ends.{EndKeeperCause, KeepsAtEnd}
 use Rattle.serve_links.specs.Messages.{StillKeeps, StopCause}
-use Rattle.serve_links.specs.ServedLinks.{KeeperCause, KeepsBehind}
+use Rattle.serve_links.specs.ServedLinksInCode.{KeeperCause, KeepsBehind}
 
 -- the flip of a bool, as a commit of the code
 abbrev pub flip : Commit

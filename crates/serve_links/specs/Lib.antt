@@ -9,3 +9,5 @@ pub mod Messages
 pub mod Prompt
 pub mod ServedLinks
 pub mod ServedRows
+pub mod ServedLinksInCode
+pub mod HistoriesInCode

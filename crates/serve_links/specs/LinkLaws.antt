@@ -4,7 +4,7 @@ use Rattle.core_terms.specs.Formats.{Hash}
 use Rattle.core_terms.specs.Terms.{Program}
 use Rattle.lam_outside.specs.Links.{Linked}
 use Rattle.session_meaning.specs.Server.{Server}
-use Rattle.session_meaning.specs.ServerLaws.{IsHistory}
+use Rattle.session_meaning.specs.ServedHistories.{IsHistory}
 use Rattle.serve_links.specs.Connections.{AnyKept}
 use Rattle.serve_links.specs.ServedLinks.{AreServed, AreServedInPart}
 

@@ -18,7 +18,7 @@ use Rattle.link_ends.specs.declared.end.ConnectionEnd.TheVariants.{Over, Stopped
 use Rattle.link_ends.specs.declared.halt.Halt.{Halt}
 use Rattle.link_ends.specs.declared.halt.Halt.TheVariants as halt
 use Rattle.serve_links.specs.Connections.{IsBrokenOff, IsCutAt, IsServed, bytes_of, heard_in}
-use Rattle.serve_links.specs.Histories.{HasServed, own_digest, program_served, step_of, turns_of}
+use Rattle.serve_links.specs.HistoriesInCode.{HasServed, own_digest, program_served, step_of, turns_of}
 
 -- it is a request
 abbrev pub asks : meant.Heard → Bool

@@ -20,9 +20,10 @@ use Rattle.link_ends.specs.declared.halt.Halt.TheVariants as halt
 use Rattle.link_ends.specs.declared.end.ServingEnd.TheVariants as serving_end
 use Rattle.serve_links.specs.Connections.{AnyKept, GoOn, IsBrokenOff, IsCutAt, IsSentPart, IsServed, IsStoppedOn, LeavesStopped}
 use Rattle.serve_links.specs.Ends.{IsBroken, StaysServer}
-use Rattle.serve_links.specs.Histories.{HasServed, own_digest, program_served, turns_of}
+use Rattle.serve_links.specs.HistoriesInCode.{HasServed, own_digest, program_served, turns_of}
 use Rattle.serve_links.specs.LinkLaws.{KeepsHistory}
-use Rattle.serve_links.specs.ServedLinks.{AreCounted, AreMoreInPart, AreMoreServed, AreServed, AreServedInPart, IsLinkServed, IsOneServed, IsOneWhole, IsServedOn, ServesLinks, ServesNext, StaysOn}
+use Rattle.serve_links.specs.ServedLinks.{AreServed, AreServedInPart, IsLinkServed, IsServedOn}
+use Rattle.serve_links.specs.ServedLinksInCode.{AreCounted, AreMoreInPart, AreMoreServed, IsOneServed, IsOneWhole, ServesLinks, ServesNext, StaysOn}
 
 -- The server before the first connection, and behind any that went so far: it has no sessions then. A greeting that it welcomes, and its reply; and
 -- a leave, and the reply to that.

@@ -3,14 +3,14 @@ ghost use Rattle.std.specs.Prelude.{◌≡◌};
 ghost use Rattle.std.specs.Option.{ForSome};
 ghost use Rattle.session_meaning.specs.Server.{HearsEnd, Server};
 ghost use Rattle.serve_core.specs.Serving.{Serves};
-ghost use Rattle.link_ends.specs.Ends.{EndCause};
+ghost use Rattle.link_ends.specs.EndCauses.{EndCause};
 ghost use Rattle.serve_links.specs.Ends.{EndKeeperCause, IsBroken, KeepsAtEnd, StaysServer};
 ghost use Rattle.session_turns.specs.Keepers.{KeepsBetween};
-ghost use Rattle.serve_links.specs.Histories.{HasSameCode, HasServed, own_digest, program_served, step_of, turns_of};
+ghost use Rattle.serve_links.specs.HistoriesInCode.{HasSameCode, HasServed, own_digest, program_served, step_of, turns_of};
 ghost use Rattle.serve_links.specs.Messages.{Ends};
 ghost use Rattle.serve_links.specs.Prompt.{IsPrompt};
 ghost use Rattle.wire_form.specs.MovedBytes.{Moves};
-ghost use Rattle.lam_outside.specs.Moments.{AtEachRead};
+ghost use Rattle.lam_outside.specs.LinkSteps.{AtEachRead};
 
 use crate::message::serve_message;
 use core_terms::Hash32;

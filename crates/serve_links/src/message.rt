@@ -5,12 +5,12 @@ ghost use Rattle.session_meaning.specs.ReplyLaws.{IsHeard};
 ghost use Rattle.session_meaning.specs.Server.{Server};
 ghost use Rattle.link_ends.specs.Halts.{HaltCause};
 ghost use Rattle.serve_core.specs.Serving.{Serves, heard_meant};
-ghost use Rattle.serve_links.specs.Histories.{HasSameCode, HasServed};
+ghost use Rattle.serve_links.specs.HistoriesInCode.{HasSameCode, HasServed};
 ghost use Rattle.serve_links.specs.Messages.{Answers, CountsMessage, HearsNext, ServesMessage, StaysServing, StillKeeps, StopCause, asks};
 ghost use Rattle.session_turns.specs.Keepers.{KeepsBetween};
 ghost use Rattle.serve_links.specs.Prompt.{WaitsForOne};
 ghost use Rattle.wire_form.specs.MovedBytes.{Moves};
-ghost use Rattle.lam_outside.specs.Moments.{AtEachRead};
+ghost use Rattle.lam_outside.specs.LinkSteps.{AtEachRead};
 
 use crate::sending::send_replies;
 use core_terms::Hash32;

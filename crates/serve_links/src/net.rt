@@ -3,12 +3,12 @@ ghost use Rattle.std.specs.Prelude.{◌≡◌, ◌<◌, length};
 ghost use Rattle.std.specs.Option.{ForSome};
 ghost use Rattle.session_meaning.specs.Server.{Server};
 ghost use Rattle.lam_outside.specs.Links.{links_so_far};
-ghost use Rattle.link_ends.specs.Ends.{LinkCause, ServingCause};
+ghost use Rattle.link_ends.specs.EndCauses.{LinkCause, ServingCause};
 ghost use Rattle.link_ends.specs.Halts.{HaltCause};
 ghost use Rattle.serve_core.specs.Serving.{Serves};
-ghost use Rattle.serve_links.specs.Histories.{HasSameCode, HasServed};
+ghost use Rattle.serve_links.specs.HistoriesInCode.{HasSameCode, HasServed};
 ghost use Rattle.serve_links.specs.Messages.{StaysServing, StillKeeps, StopCause};
-ghost use Rattle.serve_links.specs.ServedLinks.{KeeperCause, KeepsBehind, ServesLinks, ServesNext, StaysOn};
+ghost use Rattle.serve_links.specs.ServedLinksInCode.{KeeperCause, KeepsBehind, ServesLinks, ServesNext, StaysOn};
 ghost use Rattle.session_turns.specs.Keepers.{KeepsBetween};
 
 use crate::connection::serve_link;

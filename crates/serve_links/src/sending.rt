@@ -1,7 +1,7 @@
 // Replies that are sent.
 ghost use Rattle.std.specs.Prelude.{◌≡◌, map};
 ghost use Rattle.std.specs.List.{AllByRecursion};
-ghost use Rattle.session_meaning.specs.Messages.{IsReply};
+ghost use Rattle.session_meaning.specs.MessageFields.{IsReply};
 ghost use Rattle.serve_links.specs.Connections.{bytes_of};
 ghost use Rattle.wire_form.specs.MessageViews.{reply_meant};
 ghost use Rattle.wire_form.specs.WrittenMessages.{Sends, WriteCause};

@@ -3,7 +3,8 @@ use Rattle.std.proofs.Common.{◌≡◌, ℕ, zero, suc, Bool, true, false, List
 use Rattle.std.specs.List.{AllByRecursion}
 use Rattle.core_terms.specs.Formats.{Hash, IsHash, IsFormat}
 use Rattle.core_terms.specs.Values.{Value}
-use Rattle.core_terms.specs.Terms.{Program, IsTyped}
+use Rattle.core_terms.specs.Terms.{Program}
+use Rattle.core_terms.specs.TypingRules.{IsTyped}
 use Rattle.core_terms.specs.Typing.{is_shaped}
 use Rattle.ideal_meaning.specs.Frames.{Frame}
 use Rattle.session_meaning.specs.Causes.{Refusal}

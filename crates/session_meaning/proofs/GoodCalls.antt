@@ -3,9 +3,11 @@ use Rattle.std.proofs.Common.{◌≡◌, ℕ, ◌≤◌, true, List, Option, Som
 use Rattle.core_terms.specs.Formats.{Hash, IsHash, IsFormat}
 use Rattle.core_terms.specs.Values.{Value, IsIdeal}
 use Rattle.core_terms.specs.Spelling.{spelling}
-use Rattle.core_terms.specs.Terms.{Program, IsTyped}
+use Rattle.core_terms.specs.Terms.{Program}
+use Rattle.core_terms.specs.TypingRules.{IsTyped}
 use Rattle.core_terms.specs.Typing.{is_shaped}
-use Rattle.core_terms.specs.Roles.{Role, HasRoleShape, role_result}
+use Rattle.core_terms.specs.Roles.{Role}
+use Rattle.core_terms.specs.RoleTypes.{HasRoleShape, role_result}
 use Rattle.core_terms.specs.Projection.{projection, Fits, digest_at}
 use Rattle.core_terms.proofs.Plain.{own}
 use Rattle.ideal_meaning.specs.Ideal.{outcome_projection}

@@ -2,11 +2,12 @@
 use Rattle.std.specs.Prelude.{◌≡◌, ℕ, ◌≤◌, true, List, length}
 use Rattle.std.specs.List.{AllByRecursion}
 use Rattle.core_terms.specs.Formats.{Hash, IsHash, IsFormat}
-use Rattle.core_terms.specs.Terms.{Program, IsTyped}
+use Rattle.core_terms.specs.Terms.{Program}
+use Rattle.core_terms.specs.TypingRules.{IsTyped}
 use Rattle.core_terms.specs.Typing.{is_shaped}
 use Rattle.session_meaning.specs.ReplyLaws.{IsHeard}
 use Rattle.session_meaning.specs.Server.{Heard, Shared, begun_server, server_after, versions_limit}
-use Rattle.session_meaning.specs.ServerLaws.{IsHistory}
+use Rattle.session_meaning.specs.ServedHistories.{IsHistory}
 use Rattle.session_meaning.specs.Within.{IsCallWithin, IsStateWithin}
 
 -- The versions are within the limits, and no more than there may be; each but the first is made of the one before it by its commit, which is a call

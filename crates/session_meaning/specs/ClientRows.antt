@@ -6,7 +6,8 @@ use Rattle.ideal_meaning.specs.Run.{Overflow}
 use Rattle.ideal_meaning.specs.Ideal.{Done, Trapped}
 use Rattle.ideal_meaning.specs.Checked.{Short, Leftover, BadUse, BadState, BadArgument}
 use Rattle.ideal_meaning.specs.Examples.{toy, unit_program, bool_program}
-use Rattle.session_meaning.specs.Messages.{Hello, Call, Bye, Reply, Welcome, Proof, Stale, Refused, Closed, Read, Got, Stops, AtEnd, NoMore, Then, request_bytes, read_reply, reply_of, messages}
+use Rattle.session_meaning.specs.Messages.{Hello, Call, Bye, Reply, Welcome, Proof, Stale, Refused, Closed, Read, Got, Stops, AtEnd, NoMore, Then, request_bytes, reply_of, messages}
+use Rattle.session_meaning.specs.MessageFields.{read_reply}
 use Rattle.session_meaning.specs.Server.{last_turn, new_server}
 use Rattle.session_meaning.specs.Client.{Idle, Client, Event, Hellos, Calls, Byes, Hears, Forgets, Answer, Sends, TellsWelcome, Tells, TellsStale, TellsRefused, TellsEnded, StateFault, ArgumentFault, OutOfTurn, IsRejected, IsStranger, IsWrongReply, HasFailed, IsBroken, IsClosed, WantsMemory, waits, state_of, take_event, verdict_step, client_after, new_client}
 use Rattle.session_meaning.specs.ClientLaws.{told_calls}

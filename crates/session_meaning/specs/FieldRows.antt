@@ -1,7 +1,8 @@
 -- Rows for what is a message: the ranges of its fields and its length. What each word takes, and what it refuses.
 use Rattle.std.specs.Prelude.{◌≡◌, ◌<◌, ◌≤◌, ℕ, List, [], ◌∷◌, length, replicate, refl}
 use Rattle.std.proofs.Common.{arith, lit<, lit≤}
-use Rattle.session_meaning.specs.Messages.{Request, Hello, Call, Go, Bye, Reply, Welcome, Proof, Stale, Refused, Closed, AtEnd, HasFields, HasReplyFields, IsReply, IsRequest, IsSession, NoMore, Then, kind_of, request_body, reply_body, session_of}
+use Rattle.session_meaning.specs.Messages.{Request, Hello, Call, Go, Bye, Reply, Welcome, Proof, Stale, Refused, Closed, AtEnd, NoMore, Then, kind_of, request_body, reply_body, session_of}
+use Rattle.session_meaning.specs.MessageFields.{HasFields, HasReplyFields, IsReply, IsRequest, IsSession}
 use Rattle.session_meaning.specs.MessageLaws.{all_of}
 use Rattle.session_meaning.specs.Client.{Calls, Hellos, Byes}
 use Rattle.session_meaning.specs.Server.{Hears}

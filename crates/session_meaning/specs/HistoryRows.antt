@@ -13,7 +13,8 @@ use Rattle.session_meaning.specs.Messages.{Go, Bye, Reply, Welcome, Proof, Stale
 use Rattle.session_meaning.specs.Tables.{Numbered, Ascend, find, put, remove}
 use Rattle.session_meaning.specs.Fates.{Becomes, RunsOn, IsProved, MovesTo, answered, replies_to}
 use Rattle.session_meaning.specs.Server.{Heard, Hears, Running, Session, Shared, Server, last_turn, messages_limit, new_server, new_session, one_session, version_at, fits_message, frames_turn}
-use Rattle.session_meaning.specs.ServerLaws.{IsHistory, IsHonestReply, IsLimited, Makes}
+use Rattle.session_meaning.specs.ServerLaws.{IsHonestReply, IsLimited}
+use Rattle.session_meaning.specs.ServedHistories.{IsHistory, Makes}
 use Rattle.session_meaning.specs.Stopped.{IsStopped, Reaches}
 use Rattle.session_meaning.specs.RunRows.{seen_twice}
 

@@ -1,7 +1,8 @@
 -- Worked messages. Each equation holds by computing both sides.
 use Rattle.std.specs.Prelude.{◌≡◌, ℕ, List, [], ◌∷◌, ◌++◌, replicate, refl}
 use Rattle.ideal_meaning.specs.Examples.{toy}
-use Rattle.session_meaning.specs.Messages.{Hello, Call, Go, Bye, Welcome, Proof, Stale, Refused, Closed, AtEnd, IsCut, TooLong, BadMessage, Got, Stops, request_bytes, reply_bytes, read_request, read_reply, rest_of, NoMore, Then, left_by, request_of, reply_of, messages, u8_in}
+use Rattle.session_meaning.specs.Messages.{Hello, Call, Go, Bye, Welcome, Proof, Stale, Refused, Closed, AtEnd, IsCut, TooLong, BadMessage, Got, Stops, request_bytes, reply_bytes, rest_of, NoMore, Then, left_by, request_of, reply_of, messages, u8_in}
+use Rattle.session_meaning.specs.MessageFields.{read_request, read_reply}
 
 -- the digest of a program's text, in these examples
 abbrev pub text_digest : List ℕ

@@ -8,7 +8,8 @@ use Rattle.core_terms.specs.ProgramTypes.{types_meaning}
 use Rattle.core_terms.specs.Projection.{digest_at, read_at}
 use Rattle.core_terms.specs.Reading.{Read, Good, BadAt}
 use Rattle.core_terms.specs.RoleViews.{role_kind_of, role_of}
-use Rattle.core_terms.specs.Roles.{HasRoleShape, ReadsState, argument_type, program_roles}
+use Rattle.core_terms.specs.Roles.{argument_type, program_roles}
+use Rattle.core_terms.specs.RoleTypes.{HasRoleShape, ReadsState}
 use Rattle.core_terms.specs.Terms as tree
 use Rattle.core_terms.specs.TypeTables.{type_at}
 use Rattle.core_terms.specs.Values.{Value}

@@ -6,7 +6,8 @@ use Rattle.core_terms.specs.Formats.{Hash, message_limit}
 use Rattle.core_terms.specs.Programs.{meaning, types_of}
 use Rattle.core_terms.specs.Projection.{digest_at}
 use Rattle.core_terms.specs.RoleViews.{role_kind_of, role_of}
-use Rattle.core_terms.specs.Roles.{HasRoleShape, program_roles, role_result}
+use Rattle.core_terms.specs.Roles.{program_roles}
+use Rattle.core_terms.specs.RoleTypes.{HasRoleShape, role_result}
 use Rattle.core_terms.specs.Terms as tree
 use Rattle.core_terms.specs.Terms.{function_at}
 use Rattle.core_terms.specs.Types.{PairTy, Ty}

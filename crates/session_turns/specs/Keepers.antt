@@ -1,15 +1,12 @@
 -- What a keeper of commits is asked, and what it answers.
-use Rattle.std.specs.Prelude.{◌≡◌, ◌⊎◌, ◌<◌, ◌≤◌, ◌+◌, ◌^◌, ℕ, Bool, true, List, ◌++◌, length, Result, Ok, Err}
+use Rattle.std.specs.Prelude.{◌≡◌, ◌⊎◌, ◌<◌, ◌≤◌, ◌+◌, ◌^◌, ℕ, Bool, true, List, length, Result, Ok, Err}
 use Rattle.std.specs.List.{All}
 use Rattle.lam_outside.specs.Causes.{Rose}
 use Rattle.session_meaning.specs.Calls.{RoleCall}
 use Rattle.session_turns.specs.Rows.{AreAlike}
 use Rattle.session_turns.specs.Sharing.{IsCommit}
 use Rattle.session_turns.specs.declared.commit.Commit.{Commit}
-
--- the list begins with these
-abbrev pub IsFront : {A : Type 0} → List A → List A → Type 0
-IsFront {A = A} front whole = (more : List A) × (whole ≡ front ++ more)
+use Rattle.session_meaning.specs.Beginnings.{IsFront}
 
 -- The commit fits a record: the number of its role has two bytes, and its argument's spelling is no longer than a value's may be.
 pub record FitsRecord (commit : Commit) : Type 0 where

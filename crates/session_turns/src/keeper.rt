@@ -1,6 +1,7 @@
 // What keeps commits.
 ghost use Rattle.std.specs.Prelude.{◌≡◌, ℕ, Bool, List, false, IfErr, OnOk};
-ghost use Rattle.session_turns.specs.Keepers.{AreKeepable, IsFront, KeepCause, KeepsOn};
+ghost use Rattle.session_turns.specs.Keepers.{AreKeepable, KeepCause, KeepsOn};
+ghost use Rattle.session_meaning.specs.Beginnings.{IsFront};
 ghost use Rattle.session_turns.specs.declared.commit.Commit.{Commit as Made};
 
 use crate::commit::Commit;

@@ -6,7 +6,8 @@ use Rattle.core_terms.specs.Types.{Ty, UnitTy}
 use Rattle.core_terms.specs.TypeTables.{type_at, types_of_forms}
 use Rattle.core_terms.specs.TypeNames.{AreNamed}
 use Rattle.core_terms.specs.ProgramTrees.{program_of}
-use Rattle.core_terms.specs.ProgramLimits.{IsBodyWithin, IsFlatType, IsFunctionWithin, IsName, IsWithinLimits, most_constructors, most_fields}
+use Rattle.core_terms.specs.ProgramLimits.{IsName, most_constructors, most_fields}
+use Rattle.core_terms.specs.ProgramSizes.{IsBodyWithin, IsFlatType, IsFunctionWithin, IsWithinLimits}
 use Rattle.core_terms.specs.declared.format.Format.{Format}
 use Rattle.core_terms.specs.declared.types.TyId.{TyId}
 use Rattle.core_terms.specs.declared.types.TyForm.{TyForm}

@@ -1,7 +1,7 @@
 // Programs of types alone, and a node of the prover's, spelled by its digest.
 ghost use Rattle.std.specs.Prelude.{◌≡◌, ◌≤◌, true, length, IfOk, IsTrue};
 ghost use Rattle.core_terms.specs.Programs.{meaning, types_in};
-ghost use Rattle.core_terms.specs.ProgramLimits.{levels_of_type};
+ghost use Rattle.core_terms.specs.ProgramSizes.{levels_of_type};
 ghost use Rattle.core_terms.specs.TypeTables.{is_form_in, stands_behind, type_at};
 ghost use Rattle.core_terms.specs.Types.{AuthTy, Ty};
 

@@ -7,7 +7,8 @@ use Rattle.core_terms.specs.Instructions as meant
 use Rattle.core_terms.specs.Terms as tree
 use Rattle.core_terms.specs.InstructionViews.{instructions_of}
 use Rattle.core_terms.specs.ProgramFormats.{format_with}
-use Rattle.core_terms.specs.ProgramLimits.{IsFunctionWithin, IsName, IsWithinLimits, most_constructors, most_fields}
+use Rattle.core_terms.specs.ProgramLimits.{IsName, most_constructors, most_fields}
+use Rattle.core_terms.specs.ProgramSizes.{IsFunctionWithin, IsWithinLimits}
 use Rattle.core_terms.specs.ProgramParts.{compiled_program}
 use Rattle.core_terms.specs.ProgramTrees.{declared_text, function_of, has_types_below, is_within}
 use Rattle.core_terms.specs.Programs.{types_in}

@@ -8,7 +8,8 @@ use Rattle.std.proofs.lemmas.Option.{slice_get-get_or, slice_get-map}
 use Rattle.core_terms.specs.Types.{Ty, UnitTy, BoolTy, IntTy, PairTy, AuthTy, VecTy, is_length}
 use Rattle.core_terms.specs.Values.{int_fits}
 use Rattle.core_terms.specs.Terms.{Expression, UnitE, BoolE, IntE, LocalE, PairE, FstE, SndE, AuthE, UnauthE, LetE, OperateE, VecPut, Expressions, NoE, AndE, Arms, NoArm, AndArm, Program}
-use Rattle.core_terms.specs.ProgramLimits.{locals_in, most_locals}
+use Rattle.core_terms.specs.ProgramLimits.{most_locals}
+use Rattle.core_terms.specs.ProgramSizes.{locals_in}
 use Rattle.core_terms.specs.ProgramTrees.{expression_of, in_a_row, arms_in_a_row, operation_of, table_of, types_at}
 use Rattle.core_terms.specs.TypeTables.{type_at, type_of_form}
 use Rattle.core_terms.specs.declared.types.TyId.{TyId}

@@ -6,7 +6,8 @@ use Rattle.std.proofs.lemmas.List.Elements.{All-head, All-more, All-tail, All-ma
 use Rattle.core_terms.specs.Types.{Ty}
 use Rattle.core_terms.specs.Terms.{Program}
 use Rattle.core_terms.specs.Typing.{all_shaped, all_typed, is_shaped, is_typed}
-use Rattle.core_terms.specs.ProgramLimits.{expressions_in, expressions_in_all, IsBodyWithin, IsFlatType, IsFunctionWithin, IsName, IsWithinLimits, most_constructors, most_fields}
+use Rattle.core_terms.specs.ProgramLimits.{IsName, most_constructors, most_fields}
+use Rattle.core_terms.specs.ProgramSizes.{expressions_in, expressions_in_all, IsBodyWithin, IsFlatType, IsFunctionWithin, IsWithinLimits}
 use Rattle.core_terms.specs.ProgramTrees.{are_below, expression_of, function_of, has_fields_below, has_types_below, is_within, table_of, types_at}
 use Rattle.core_terms.specs.Programs.{types_in}
 use Rattle.core_terms.specs.TypeNames.{AreNamed}

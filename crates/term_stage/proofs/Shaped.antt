@@ -5,7 +5,7 @@ use Rattle.core_terms.specs.Types.{PairTy, Table, Ty, UnitTy}
 use Rattle.core_terms.specs.Terms.{Program, Query, Update}
 use Rattle.core_terms.specs.Roles.{has_auth}
 use Rattle.core_terms.specs.TypeTables.{type_at}
-use Rattle.core_terms.specs.Typing.{shape_test}
+use Rattle.core_terms.specs.RoleShapes.{shape_test}
 use Rattle.core_terms.specs.declared.types.TyId.{TyId}
 use Rattle.core_terms.proofs.TypingComplete.{both, same_self}
 

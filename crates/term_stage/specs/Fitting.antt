@@ -2,12 +2,14 @@
 -- so many are left before a part and so many after it.
 use Rattle.std.specs.Prelude.{◌≡◌, true, ℕ, ◌+◌, ◌<◌, ◌≤◌, List, length, map, All}
 use Rattle.core_terms.specs.Types.{Ty}
-use Rattle.core_terms.specs.Terms.{Expression, Expressions, Arms, Program, HasType, HaveTypes, HaveArms}
-use Rattle.core_terms.specs.ProgramLimits.{levels_of, levels_of_row, levels_of_arms, locals_in, locals_in_row, locals_in_arms, expressions_in, expressions_in_row, expressions_in_arms, expressions_in_all, most_constructors, most_expressions, most_fields, most_functions, most_levels, most_locals, most_parameters, most_types, IsFlatType, IsName}
+use Rattle.core_terms.specs.Terms.{Expression, Expressions, Arms, Program}
+use Rattle.core_terms.specs.TypingRules.{HasType, HaveTypes, HaveArms}
+use Rattle.core_terms.specs.ProgramLimits.{most_constructors, most_expressions, most_fields, most_functions, most_levels, most_locals, most_parameters, most_types, IsName}
+use Rattle.core_terms.specs.ProgramSizes.{levels_of, levels_of_row, levels_of_arms, locals_in, locals_in_row, locals_in_arms, expressions_in, expressions_in_row, expressions_in_arms, expressions_in_all, IsFlatType}
 use Rattle.core_terms.specs.ProgramTrees.{expression_of, function_of, kind_of, program_of, types_at}
 use Rattle.core_terms.specs.Programs.{types_in}
 use Rattle.core_terms.specs.TypeTables.{type_at}
-use Rattle.core_terms.specs.Typing.{shape_test}
+use Rattle.core_terms.specs.RoleShapes.{shape_test}
 use Rattle.core_terms.specs.declared.types.TyId.{TyId}
 use Rattle.core_terms.specs.declared.types.TyTable.{TyTable}
 use Rattle.core_terms.specs.declared.term.NamedType.{NamedType}

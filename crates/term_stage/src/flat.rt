@@ -1,7 +1,7 @@
 // Types within the limits of a program.
 ghost use Rattle.std.specs.Prelude.{◌≡◌, ◌≤◌, IsTrue};
 ghost use Rattle.core_terms.specs.Programs.{types_in};
-ghost use Rattle.core_terms.specs.ProgramLimits.{levels_of_type};
+ghost use Rattle.core_terms.specs.ProgramSizes.{levels_of_type};
 ghost use Rattle.core_terms.specs.TypeTables.{type_at};
 
 use core_terms::{TyForm, TyId, TyTable};

@@ -2,7 +2,8 @@
 ghost use Rattle.std.specs.Prelude.{◌≡◌, ◌≤◌, ◌++◌, [], map, suc, true, length, Some, slice_get, unwrap_or, IfOk, IsTrue};
 ghost use Rattle.core_terms.specs.Programs.{types_in};
 ghost use Rattle.core_terms.specs.ProgramTrees.{arms_in_a_row, expression_of, in_a_row, operation_of, types_at};
-ghost use Rattle.core_terms.specs.Terms.{OnFunction, OperateE};
+ghost use Rattle.core_terms.specs.Terms.{OperateE};
+ghost use Rattle.core_terms.specs.TypingRules.{OnFunction};
 ghost use Rattle.core_terms.specs.TypeTables.{type_at, type_of_form};
 ghost use Rattle.core_terms.specs.Types.{OnFields, fields_at, is_length};
 ghost use Rattle.core_terms.specs.Values.{int_fits};

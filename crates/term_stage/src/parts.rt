@@ -97,7 +97,7 @@ fn each_named_fits(types: &TyTable, named: &[NamedType]) -> bool
 
 impl Judge<'_> {
     ghost use Rattle.std.specs.Prelude.{◌+◌, map};
-    ghost use Rattle.core_terms.specs.ProgramLimits.{expressions_in, expressions_in_all};
+    ghost use Rattle.core_terms.specs.ProgramSizes.{expressions_in, expressions_in_all};
     ghost use Rattle.core_terms.specs.ProgramTrees.{expression_of, function_of};
 
     /// Whether a function has its type within the limits. It takes the number of its expressions from what is left.

@@ -5,7 +5,7 @@ ghost use Rattle.core_terms.specs.ProgramTrees.{kind_of, types_at};
 ghost use Rattle.core_terms.specs.Roles.{has_auth};
 ghost use Rattle.core_terms.specs.TypeTables.{type_at, type_of_form};
 ghost use Rattle.core_terms.specs.Types.{PairTy, Table, Ty};
-ghost use Rattle.core_terms.specs.Typing.{shape_test};
+ghost use Rattle.core_terms.specs.RoleShapes.{shape_test};
 ghost use Rattle.term_stage.specs.Fitting.{judged};
 
 use crate::judge::Judge;

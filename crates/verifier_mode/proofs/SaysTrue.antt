@@ -4,7 +4,8 @@ use Rattle.core_terms.specs.Types.{Ty}
 use Rattle.core_terms.specs.Formats.{Hash, IsHash, IsFormat}
 use Rattle.core_terms.specs.Values.{Value, IsIdeal, AreIdeal}
 use Rattle.core_terms.specs.Spelling.{spelling}
-use Rattle.core_terms.specs.Terms.{Program, function_at, IsTyped}
+use Rattle.core_terms.specs.Terms.{Program, function_at}
+use Rattle.core_terms.specs.TypingRules.{IsTyped}
 use Rattle.core_terms.specs.Roles.{argument_type}
 use Rattle.core_terms.specs.Projection.{projection, projections, Fits, AllFit}
 use Rattle.core_terms.specs.Programs.{meaning}

@@ -16,7 +16,7 @@ use Rattle.ideal_meaning.specs.Frames.{header, offered, offered_pieces}
 use Rattle.ideal_meaning.specs.Checked as checked
 use Rattle.ideal_meaning.specs.Headline.{TrueOrSplit, call_of}
 use Rattle.ideal_meaning.specs.Told.{cause_told}
-use Rattle.mode_vm.specs.StateCalls.{SpellsOutcome}
+use Rattle.ideal_meaning.specs.SpelledOutcomes.{SpellsOutcome}
 use Rattle.mode_vm.specs.declared.mode.Stop.{Stop}
 use Rattle.mode_vm.specs.declared.mode.Stop.TheVariants as stop
 use Rattle.proof_stream.specs.declared.frame.HeadEnd.{HeadEnd}

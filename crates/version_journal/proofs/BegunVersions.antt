@@ -7,7 +7,7 @@ use Rattle.core_terms.specs.Terms.{Program}
 use Rattle.core_terms.specs.Values.{Value}
 use Rattle.session_meaning.specs.Begun.{IsBegun}
 use Rattle.session_meaning.specs.Server as meant
-use Rattle.session_meaning.specs.ServerLaws.{IsHistory}
+use Rattle.session_meaning.specs.ServedHistories.{IsHistory}
 use Rattle.session_meaning.specs.Within.{IsCallWithin, IsStateWithin}
 use Rattle.session_turns.specs.Sharing.{Shares}
 use Rattle.session_turns.specs.Versions.{AreVersions}

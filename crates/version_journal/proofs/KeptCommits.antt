@@ -6,7 +6,8 @@ use Rattle.std.proofs.lemmas.List.{append-nil, drop_at, length-take, nil_from_le
 use Rattle.core_terms.specs.Values.{DigestV}
 use Rattle.lam_outside.specs.Disks.{Moments}
 use Rattle.session_meaning.specs.Calls.{RoleCall}
-use Rattle.session_turns.specs.Keepers.{FitsRecord, IsFront}
+use Rattle.session_turns.specs.Keepers.{FitsRecord}
+use Rattle.session_meaning.specs.Beginnings.{IsFront}
 use Rattle.session_turns.specs.Rows.{AreAlike}
 use Rattle.session_turns.specs.Sharing.{IsCommit}
 use Rattle.session_turns.specs.declared.commit.Commit.{Commit}

@@ -3,7 +3,8 @@ use Rattle.std.specs.Prelude.{IsErrAnd, IsOkAnd}
 use Rattle.std.proofs.Common.{◌≡◌, ◌≤◌, ℕ, List, [], ◌∷◌, Option, Some, None, Result, Ok, Err, refl, sym, ◌∙◌, subst, arith}
 use Rattle.core_terms.specs.Formats.{Hash}
 use Rattle.core_terms.specs.Terms.{Program}
-use Rattle.lam_outside.specs.Disks.{DiskFile, ForChosen, Moments, Synced, settled}
+use Rattle.lam_outside.specs.Disks.{DiskFile, Moments, settled}
+use Rattle.lam_outside.specs.DiskSteps.{ForChosen, Synced}
 use Rattle.session_turns.specs.Sharing.{Shares}
 use Rattle.session_turns.specs.declared.shared.Shared.{Shared}
 use Rattle.version_journal.specs.Gates.{ForTold, IsClosedBehind}

@@ -2,7 +2,8 @@
 use Rattle.std.specs.Prelude.{Option, Some, None, Result, Ok, Err, OnOk, IsErr, true, false}
 use Rattle.std.proofs.Common.{◌≡◌, ◌≢◌, ◌+◌, ℕ, List, [], ◌∷◌, ◌++◌, length, refl, sym, ◌∙◌, ap, subst, arith, length-append}
 use Rattle.std.proofs.lemmas.List.{append-nil, nil_from_length, places, same_lists}
-use Rattle.lam_outside.specs.Disks.{ForChosen, Moments, laid, range, settled, with_write}
+use Rattle.lam_outside.specs.Disks.{Moments, settled}
+use Rattle.lam_outside.specs.DiskSteps.{ForChosen, laid, range, with_write}
 use Rattle.lam_outside.specs.declared.traits.Failed.{Failed}
 use Rattle.version_journal.specs.AtGates.{Makes}
 use Rattle.version_journal.specs.Gates.{Appends, AtLast, ForTold, IsClosedBehind, IsKept}

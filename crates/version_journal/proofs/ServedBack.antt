@@ -3,7 +3,7 @@ use Rattle.std.specs.List.{AllByRecursion}
 use Rattle.std.proofs.Common.{◌≡◌, ℕ, suc, true, List, [], ◌∷◌, ◌++◌, length, take, replicate, Some, refl, sym, ap, ◌∙◌, subst, arith, length-append}
 use Rattle.core_terms.specs.Formats.{IsFormat}
 use Rattle.core_terms.specs.Projection.{Fits}
-use Rattle.core_terms.specs.Roles.{IsPlain}
+use Rattle.core_terms.specs.RoleTypes.{IsPlain}
 use Rattle.core_terms.specs.Spelling.{Spells, spelling}
 use Rattle.core_terms.specs.Terms.{Kind, Program, Update}
 use Rattle.core_terms.specs.Types.{Ty}
@@ -14,7 +14,7 @@ use Rattle.core_terms.proofs.ReadBack.{shallow_is}
 use Rattle.core_terms.proofs.Spelled.{length_spelling, spells_read}
 use Rattle.ideal_meaning.specs.Ideal.{Outcome}
 use Rattle.session_meaning.specs.Calls.{RoleCall, changes_state, outcome_of, reads_state, role_in, state_made}
-use Rattle.session_meaning.specs.ServerLaws.{IsHistory, Makes}
+use Rattle.session_meaning.specs.ServedHistories.{IsHistory, Makes}
 use Rattle.session_meaning.specs.Within.{IsCallWithin}
 use Rattle.session_meaning.proofs.ToldCalls.{reads_shape}
 use Rattle.version_journal.specs.JournalLaws.{AreWritable, IsWritable, ServedJournalsAreReadBack}

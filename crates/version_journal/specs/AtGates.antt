@@ -1,6 +1,6 @@
 -- Where a journal stands in its file.
-use Rattle.std.specs.Prelude.{◌≡◌, ℕ, ◌<◌, List, [], length, Result, Ok, Err, ⊤, Bool, true, false}
-use Rattle.lam_outside.specs.Disks.{DiskFile, Moments}
+use Rattle.std.specs.Prelude.{◌≡◌, ℕ, List, [], length, Result, Ok, Err, ⊤, Bool, true, false}
+use Rattle.lam_outside.specs.Disks.{Moments}
 use Rattle.session_meaning.specs.Calls.{RoleCall}
 use Rattle.version_journal.specs.Gates.{AtLast, IsKept}
 use Rattle.version_journal.specs.Journals.{journal_front}
@@ -8,17 +8,12 @@ use Rattle.version_journal.specs.declared.fault.DiskCount.TheVariants.{Reads, Wr
 use Rattle.version_journal.specs.declared.fault.JournalFault.{JournalFault}
 use Rattle.version_journal.specs.declared.fault.JournalFault.TheVariants.{NotEmpty, DiskFault, Failed, NoMemory}
 use Rattle.version_journal.specs.declared.journal.Journal.{Journal}
+use Rattle.version_journal.specs.KeptBytes.{HasBytes, HasNone}
 
 -- The journal stands behind this image and these commits: at the place of the gate behind them.
 pub record IsAt (own image : List ℕ) (calls : List RoleCall) (journal : Journal) : Type 0 where
   pub gate : journal.gate ≡ length (journal_front own image calls)
   pub records : journal.records ≡ length calls
-
-abbrev pub HasBytes : DiskFile → Type 0
-HasBytes file = 0 < length file.reads
-
-abbrev pub HasNone : DiskFile → Type 0
-HasNone file = length file.reads ≡ 0
 
 -- A journal was made: the file reads as the image with no commits, and every crash leaves that. It was not, exactly where the file had bytes;
 -- or the disk failed, or memory was wanting. A file that had bytes stays as it was, whatever is answered.

@@ -14,3 +14,5 @@ pub mod Openings
 pub mod Appended
 pub mod FoundJournals
 pub mod FoundRows
+pub mod Synced
+pub mod KeptBytes

@@ -1,5 +1,5 @@
 -- What a journal that is opened gives, and its fault.
-use Rattle.std.specs.Prelude.{◌≡◌, ℕ, ◌<◌, ◌^◌, List, [], ◌∷◌, length, Result, Ok, Err, ⊤}
+use Rattle.std.specs.Prelude.{◌≡◌, ℕ, ◌<◌, ◌^◌, List, ◌∷◌, length, Result, Ok, Err, ⊤}
 use Rattle.std.specs.List.{AllByRecursion}
 use Rattle.core_terms.specs.Formats.{Hash}
 use Rattle.core_terms.specs.Terms.{Program}
@@ -9,7 +9,7 @@ use Rattle.images.specs.Images as image
 use Rattle.images.specs.Loads.{TellsFault}
 use Rattle.images.specs.declared.fault.ImageFault.{ImageFault}
 use Rattle.images.specs.declared.fault.ImageFault.TheVariants.{NoMemory as NoImageMemory}
-use Rattle.lam_outside.specs.Disks.{DiskFile, Moments, settled}
+use Rattle.lam_outside.specs.Disks.{DiskFile, Moments}
 use Rattle.session_meaning.specs.Begun.{IsBegun}
 use Rattle.session_meaning.specs.Server as shared
 use Rattle.session_meaning.specs.Within.{IsCallWithin}
@@ -25,6 +25,7 @@ use Rattle.version_journal.specs.declared.fault.JournalFault.{JournalFault}
 use Rattle.version_journal.specs.declared.fault.JournalFault.TheVariants.{NotEmpty, Magic, Cut, OtherProgram, Image, BadRecord, DiskFault, Failed, NoMemory}
 use Rattle.version_journal.specs.declared.opening.Opened.{Opened}
 use Rattle.version_journal.specs.declared.opening.Opening.{Opening}
+use Rattle.version_journal.specs.Synced.{IsSynced}
 
 -- The fault is one of which this holds; the want of memory is no fault of an image.
 abbrev pub TellsImage : (image.ImageFault → Type 0) → ImageFault → Type 0
@@ -113,11 +114,6 @@ module _ (hash : Hash) (P : Program) (own : List ℕ) where
   OpensTo new (Ok opened) = AtLast (IsOpened opened) new
   OpensTo new (Err (DiskFault count)) = ⊤
   OpensTo new (Err fault) = AtLast (λ file. TellsJournal (journal_of P own file.reads) fault) new
-
--- the file was synced, and nothing else was done to it
-abbrev pub IsSynced : (old new : Moments) → Type 0
-IsSynced [] new = ⊥
-IsSynced (file ∷ past) new = new ≡ settled file.reads ∷ file ∷ past
 
 -- So it is, whatever is answered, but where the sync failed: then nothing was done.
 abbrev pub OnlySynced : (old new : Moments) → Result Opened JournalFault → Type 0

@@ -5,6 +5,7 @@ use Rattle.std.specs.Int.{w16, w32, w64, to_be_bytes}
 use Rattle.std.proofs.lemmas.Nat.{from_be_bytes-to_be_bytes_4}
 use Rattle.core_terms.specs.Spelling.{AreBytes}
 use Rattle.session_meaning.specs.Messages as meant
+use Rattle.session_meaning.specs.MessageFields as message_fields
 use Rattle.session_meaning.specs.Messages.{message_limit}
 use Rattle.session_meaning.specs.ReplyLaws.{HasArgumentBytes}
 use Rattle.session_meaning.proofs.OnlyMessages.{only_replies_are_read, only_requests_are_read}
@@ -30,7 +31,7 @@ read_alone of body fits =
     ∙ ap₂ (λ front behind. meant.read_body of front behind) (take_all (length body) body (omega arith)) (drop_all (length body) body (omega arith))
 
 pub is_request : (body : List ℕ) (request : meant.Request) → length body ≤ message_limit → ((i : ℕ) → get_or body i 0 < 256)
-    → meant.read_body meant.request_of body [] ≡ meant.Got request [] → meant.IsRequest request
+    → meant.read_body meant.request_of body [] ≡ meant.Got request [] → message_fields.IsRequest request
 is_request body request fits below says =
     (only_requests_are_read (meant.message body) request [] (framed body (are_bytes body below)) (read_alone meant.request_of body fits ∙ says)).0
 
@@ -57,6 +58,6 @@ has_argument body request fits below says =
     argument_in request (subst AreBytes (is ∙ append-nil (meant.request_bytes request)) bytes)
 
 pub is_reply : (body : List ℕ) (reply : meant.Reply) → length body ≤ message_limit → ((i : ℕ) → get_or body i 0 < 256)
-    → meant.read_body meant.reply_of body [] ≡ meant.Got reply [] → meant.IsReply reply
+    → meant.read_body meant.reply_of body [] ≡ meant.Got reply [] → message_fields.IsReply reply
 is_reply body reply fits below says =
     (only_replies_are_read (meant.message body) reply [] (framed body (are_bytes body below)) (read_alone meant.reply_of body fits ∙ says)).0

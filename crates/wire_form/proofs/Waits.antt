@@ -1,7 +1,8 @@
 -- When a message is waited for: for read_body and read_whole.
 use Rattle.std.proofs.Common.{◌≡◌, ◌∙◌, ◌<◌, ◌≤◌, ℕ, zero, suc, List, [], ◌∷◌, length, drop, Option, Some, inl, inr, refl, subst, arith}
 use Rattle.std.proofs.lemmas.Grind.{common_steps}
-use Rattle.lam_outside.specs.Moments.{AtEachRead, Moment, WaitsWithin}
+use Rattle.lam_outside.specs.Moments.{Moment}
+use Rattle.lam_outside.specs.LinkSteps.{AtEachRead, WaitsWithin}
 use Rattle.lam_outside.proofs.Waiting.{reads_on, reads_weaken}
 use Rattle.session_meaning.specs.Messages.{message_limit}
 use Rattle.wire_form.specs.Incoming.{TookUnfinished, length_field}

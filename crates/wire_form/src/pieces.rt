@@ -3,7 +3,7 @@ ghost use Rattle.std.specs.Prelude.{◌≡◌, ◌≤◌, length, IfOk};
 ghost use Rattle.std.specs.Option.{ForSome};
 ghost use Rattle.session_meaning.specs.Messages.{message_limit};
 ghost use Rattle.session_meaning.specs.FetchMessages as asked;
-ghost use Rattle.lam_outside.specs.Moments.{AtEachRead};
+ghost use Rattle.lam_outside.specs.LinkSteps.{AtEachRead};
 ghost use Rattle.wire_form.specs.Gots.{digest_meant, got_meant};
 ghost use Rattle.wire_form.specs.Incoming.{ReadCause};
 ghost use Rattle.wire_form.specs.MovedBytes.{Moves};

@@ -2,11 +2,12 @@
 ghost use Rattle.std.specs.Prelude.{◌≡◌, ◌≤◌, length, IfOk};
 ghost use Rattle.std.specs.Option.{ForSome};
 ghost use Rattle.session_meaning.specs.Messages as meant;
+ghost use Rattle.session_meaning.specs.MessageFields as message_fields;
 ghost use Rattle.session_meaning.specs.ReplyLaws.{HasArgumentBytes};
 ghost use Rattle.wire_form.specs.Incoming.{ReadCause, WholeCame};
 ghost use Rattle.wire_form.specs.MessageViews.{reply_meant, request_meant};
 ghost use Rattle.wire_form.specs.MovedBytes.{Moves};
-ghost use Rattle.lam_outside.specs.Moments.{AtEachRead};
+ghost use Rattle.lam_outside.specs.LinkSteps.{AtEachRead};
 ghost use Rattle.wire_form.specs.Waits.{WaitsInside};
 ghost use Rattle.wire_form.specs.ReadMessages.{ReadsMessage, SaysWhole};
 
@@ -24,8 +25,8 @@ use std::alloc::Global;
 /// - `LinkFault` where the link failed, and its count of faults rose.
 /// - `NoMemory` where what came found no memory. A length that is announced and not sent takes none.
 pub fn read_request<L: Link>(alloc: Global, link: &mut L) -> Result<Request, ReadStop>
-    ensures reads { ForSome (L.left link.old) (λ bytes. ReadsMessage request_meant meant.read_request bytes (L.left link.new) result) }
-    ensures message { IfOk result (λ request. meant.IsRequest (request_meant request)) }
+    ensures reads { ForSome (L.left link.old) (λ bytes. ReadsMessage request_meant message_fields.read_request bytes (L.left link.new) result) }
+    ensures message { IfOk result (λ request. message_fields.IsRequest (request_meant request)) }
     ensures argument { IfOk result (λ request. HasArgumentBytes (request_meant request)) }
     ensures waits { ForSome (L.left link.old) (λ bytes. AtEachRead (WaitsInside bytes (L.sent link.old)) (L.reads link.old) (L.reads link.new)) }
     ensures moves { Moves (L.given link.old) (L.left link.old) (L.given link.new) (L.left link.new) }
@@ -40,8 +41,8 @@ pub fn read_request<L: Link>(alloc: Global, link: &mut L) -> Result<Request, Rea
 /// Reads the next message, which must be a reply, and no byte behind it. The answers are those of `read_request`, and what it
 /// gives is one that `write_reply` takes.
 pub fn read_reply<L: Link>(alloc: Global, link: &mut L) -> Result<Reply, ReadStop>
-    ensures reads { ForSome (L.left link.old) (λ bytes. ReadsMessage reply_meant meant.read_reply bytes (L.left link.new) result) }
-    ensures message { IfOk result (λ reply. meant.IsReply (reply_meant reply)) }
+    ensures reads { ForSome (L.left link.old) (λ bytes. ReadsMessage reply_meant message_fields.read_reply bytes (L.left link.new) result) }
+    ensures message { IfOk result (λ reply. message_fields.IsReply (reply_meant reply)) }
     ensures waits { ForSome (L.left link.old) (λ bytes. AtEachRead (WaitsInside bytes (L.sent link.old)) (L.reads link.old) (L.reads link.new)) }
     ensures moves { Moves (L.given link.old) (L.left link.old) (L.given link.new) (L.left link.new) }
     ensures sent { L.sent link.new ≡ L.sent link.old }
@@ -70,7 +71,7 @@ pub fn read_whole<L: Link>(alloc: Global, link: &mut L) -> Result<Vec<u8>, ReadS
 fn request_in(alloc: Global, body: &[u8]) -> Result<Request, ReadStop>
     requires { length body.now ≤ meant.message_limit }
     ensures says { SaysWhole request_meant meant.request_of body.now result }
-    ensures message { IfOk result (λ request. meant.IsRequest (request_meant request)) }
+    ensures message { IfOk result (λ request. message_fields.IsRequest (request_meant request)) }
     ensures argument { IfOk result (λ request. HasArgumentBytes (request_meant request)) }
 {
     let Some((kind, fields)) = body.split_first() else {
@@ -87,7 +88,7 @@ fn request_in(alloc: Global, body: &[u8]) -> Result<Request, ReadStop>
 fn reply_in(alloc: Global, body: &[u8]) -> Result<Reply, ReadStop>
     requires { length body.now ≤ meant.message_limit }
     ensures says { SaysWhole reply_meant meant.reply_of body.now result }
-    ensures message { IfOk result (λ reply. meant.IsReply (reply_meant reply)) }
+    ensures message { IfOk result (λ reply. message_fields.IsReply (reply_meant reply)) }
 {
     let Some((kind, fields)) = body.split_first() else {
         return Err(ReadStop::BadMessage(0, 0));

@@ -2,6 +2,7 @@
 ghost use Rattle.std.specs.Prelude.{◌≡◌, ◌≤◌, ◌+◌, ◌++◌, ◌∷◌, [], length, take, IfOk, OnOk};
 ghost use Rattle.std.specs.Int.{w16, w32, to_be_bytes};
 ghost use Rattle.session_meaning.specs.Messages as meant;
+ghost use Rattle.session_meaning.specs.MessageFields as message_fields;
 ghost use Rattle.wire_form.specs.MessageViews.{reply_meant, request_meant};
 ghost use Rattle.wire_form.specs.WrittenMessages.{Sends, WriteCause, reply_fields, reply_tail, request_fields, request_tail};
 
@@ -18,7 +19,7 @@ pub fn write_request<L: Link>(
     link: &mut L,
     message: &Request,
 ) -> Result<(), WriteStop>
-    requires { meant.IsRequest (request_meant message.now) }
+    requires { message_fields.IsRequest (request_meant message.now) }
     ensures sends { Sends (meant.request_bytes (request_meant message.now)) (L.sent link.old) (L.sent link.new) result }
     ensures reads { L.reads link.new ≡ L.reads link.old }
     ensures given { L.given link.new ≡ L.given link.old }
@@ -32,7 +33,7 @@ pub fn write_request<L: Link>(
 
 /// Writes a reply. The answers are those of `write_request`.
 pub fn write_reply<L: Link>(alloc: Global, link: &mut L, message: &Reply) -> Result<(), WriteStop>
-    requires { meant.IsReply (reply_meant message.now) }
+    requires { message_fields.IsReply (reply_meant message.now) }
     ensures sends { Sends (meant.reply_bytes (reply_meant message.now)) (L.sent link.old) (L.sent link.new) result }
     ensures reads { L.reads link.new ≡ L.reads link.old }
     ensures given { L.given link.new ≡ L.given link.old }

@@ -1,6 +1,6 @@
 // Messages that are written: over links that take a few bytes a call, of which a call fails, or that take no more.
 ghost use Rattle.std.specs.Prelude.{◌≡◌, ◌<◌, None, length, refl, IfOk};
-ghost use Rattle.session_meaning.specs.Messages.{IsReply, IsRequest};
+ghost use Rattle.session_meaning.specs.MessageFields.{IsReply, IsRequest};
 ghost use Rattle.wire_form.specs.MessageViews.{reply_meant, request_meant};
 
 use crate::messages::MESSAGES;

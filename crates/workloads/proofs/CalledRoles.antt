@@ -4,7 +4,7 @@ use Rattle.std.proofs.lemmas.Int.{to_z-of_z}
 use Rattle.std.proofs.lemmas.Option.{slice_get_within}
 use Rattle.core_terms.specs.Formats.{Hash}
 use Rattle.core_terms.specs.Projection.{digest_at}
-use Rattle.core_terms.specs.Roles.{IsRole, ReadsState}
+use Rattle.core_terms.specs.RoleTypes.{IsRole, ReadsState}
 use Rattle.core_terms.specs.Terms.{Kind, Program}
 use Rattle.core_terms.specs.Types.{IntTy, PairTy, Table, Ty}
 use Rattle.core_terms.specs.Values.{IntV, PairV, Value}

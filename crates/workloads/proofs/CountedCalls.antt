@@ -5,7 +5,7 @@ use Rattle.core_terms.specs.Terms.{Program}
 use Rattle.core_terms.specs.Values.{Value}
 use Rattle.core_terms.specs.declared.outcome.Outcome.{Outcome}
 use Rattle.value_store.specs.declared.node.Ref.{Ref}
-use Rattle.prover_mode.specs.Counts.{again_in, fresh_in}
+use Rattle.ideal_meaning.specs.RunFrames.{again_in, fresh_in}
 use Rattle.workloads.specs.Sums.{call_added, is_done, one_if}
 use Rattle.verified_calls.specs.declared.call.VerifiedCall.{VerifiedCall}
 use Rattle.workloads.specs.Workloads.{add_call, done_in, file_of, frames_of, outcome_of}

@@ -1,6 +1,6 @@
 -- The outcome of a put.
 use Rattle.std.proofs.Common.{ℕ, List, subst, sym}
-use Rattle.core_terms.specs.Roles.{IsRole}
+use Rattle.core_terms.specs.RoleTypes.{IsRole}
 use Rattle.core_terms.specs.Terms.{Program, Update, function_at}
 use Rattle.core_terms.specs.Types.{PairTy, Table, Ty}
 use Rattle.core_terms.specs.Values.{PairV, Value}

@@ -12,7 +12,7 @@ use Rattle.core_terms.specs.declared.outcome.Outcome.{Outcome}
 use Rattle.core_terms.specs.declared.outcome.Outcome.TheVariants as told
 use Rattle.ideal_meaning.specs.Checked as checked
 use Rattle.ideal_meaning.specs.Ideal as ideal
-use Rattle.mode_vm.specs.StateCalls.{SpellsOutcome}
+use Rattle.ideal_meaning.specs.SpelledOutcomes.{SpellsOutcome}
 use Rattle.prover_mode.specs.Calls.{IsAccepted}
 use Rattle.verifier_mode.specs.Verdicts.{Tells, VerdictCause}
 use Rattle.verifier_mode.specs.declared.verdict.Verdict.{Verdict}

@@ -7,8 +7,7 @@ use Rattle.ideal_meaning.specs.Frames.{Frame, proof_file}
 use Rattle.ideal_meaning.specs.Headline.{call_of}
 use Rattle.ideal_meaning.specs.Ideal.{Done, Outcome, bytes_of, honest_pieces, ideal, outcome}
 use Rattle.ideal_meaning.specs.Run.{first_in}
-use Rattle.prover_mode.specs.Calls.{run_frames}
-use Rattle.prover_mode.specs.Counts.{again_in, fresh_in}
+use Rattle.ideal_meaning.specs.RunFrames.{run_frames, again_in, fresh_in}
 use Rattle.ads_library.specs.Recurrence.{next_state, number_of}
 use Rattle.workloads.specs.declared.tally.Tally.{Tally}
 use Rattle.workloads.specs.declared.workload.Workload.{Workload}

@@ -1,7 +1,7 @@
 // Rounds of a workload: a put, and a get of its key.
 ghost use Rattle.std.specs.Prelude.{◌≡◌, ◌<◌, ◌≤◌, ◌+◌, ◌%◌, ◌^◌, ℕ, IfOk, OnOk, length, pos};
 ghost use Rattle.core_terms.specs.Projection.{digest_at};
-ghost use Rattle.core_terms.specs.Roles.{IsRole};
+ghost use Rattle.core_terms.specs.RoleTypes.{IsRole};
 ghost use Rattle.core_terms.specs.Terms.{Query, Update};
 ghost use Rattle.core_terms.specs.Types.{IntTy, PairTy, Table, Ty};
 ghost use Rattle.core_terms.specs.Values.{IntV, PairV, Value};

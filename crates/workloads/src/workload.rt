@@ -1,7 +1,7 @@
 // Workloads.
 ghost use Rattle.std.specs.Prelude.{◌≡◌, ◌<◌, ◌≤◌, IfOk};
 ghost use Rattle.core_terms.specs.Projection.{digest_at};
-ghost use Rattle.core_terms.specs.Roles.{IsRole};
+ghost use Rattle.core_terms.specs.RoleTypes.{IsRole};
 ghost use Rattle.core_terms.specs.Terms.{Query, Update};
 ghost use Rattle.core_terms.specs.Types.{IntTy, PairTy, Ty};
 ghost use Rattle.core_terms.specs.Values.{Value};

@@ -3,7 +3,7 @@
 ghost use Rattle.std.specs.Prelude.{◌≡◌, ◌++◌, ◌∷◌, [], IfOk, List, OnOk, Option, option_map};
 ghost use Rattle.lexemes.specs.Tokens.{Tokens, count};
 ghost use Rattle.auth_syntax.specs.Parsing.{begins_expression, expression_from, operation_from, read_arm_separator, read_arms, read_expression, read_if, read_let, read_list, read_lower, read_match, read_operate, read_optional_list, read_so_many, read_unit_or_pair, read_whole_expression, word_begins, word_from};
-ghost use Rattle.auth_syntax.specs.Grammar.{others_of};
+ghost use Rattle.auth_syntax.specs.Nesting.{others_of};
 ghost use Rattle.auth_syntax.specs.Parsing as parsing;
 ghost use Rattle.auth_syntax.specs.Arms.{read_arm};
 ghost use Rattle.auth_syntax.specs.Parts.{Begins, as_call, as_constructor, both_of, head_token, operands_of, operation_of, pattern_of, read_before, read_behind, read_binding, read_both, behind_operand, read_opened, read_operands, read_operation, read_pattern, then_closed};

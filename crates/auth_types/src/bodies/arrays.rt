@@ -4,7 +4,7 @@ ghost use Rattle.core_terms.specs.ProgramTrees.{expression_of, operation_of};
 ghost use Rattle.core_terms.specs.Terms as tree;
 ghost use Rattle.core_terms.specs.TypeTables.{type_at};
 ghost use Rattle.core_terms.specs.Types.{Ty, VecTy};
-ghost use Rattle.auth_syntax.specs.Grammar as grammar;
+ghost use Rattle.auth_syntax.specs.Nesting as grammar;
 ghost use Rattle.auth_syntax.specs.Syntax.{FillOperation, GetOperation, PutOperation};
 ghost use Rattle.auth_syntax.specs.Trees as written;
 ghost use Rattle.auth_types.specs.Arrays.{Begins, IsArrayAt, IsTaken, taken_of};

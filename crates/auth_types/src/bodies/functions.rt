@@ -9,7 +9,7 @@ ghost use Rattle.declared_types.specs.DeclaredPrograms.{signature_of};
 ghost use Rattle.auth_types.specs.Elaborators.{Keeps, functions_of, locals_of, scope_of, types_of};
 ghost use Rattle.declared_types.specs.Findings.{Finds};
 ghost use Rattle.declared_types.specs.OverTypes.{FindsOver, Grows};
-ghost use Rattle.declared_types.specs.RoleRules.{kind_meant};
+ghost use Rattle.declared_types.specs.RoleKinds.{kind_meant};
 ghost use Rattle.declared_types.specs.WrittenTypes.{type_meant};
 ghost use Rattle.auth_syntax.specs.Syntax as syntax;
 ghost use Rattle.declared_types.specs.Scopes.{AreHeadsOf, AreWithin, IsCounted, IsHeadWithin, IsWithin, functions_meant, scope_meant, signature_meant};

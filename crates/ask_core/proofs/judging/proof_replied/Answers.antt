@@ -1,5 +1,5 @@
 use Rattle.std.proofs.Common.{◌≡◌, Some, Ok, Err, true, refl, sym, ap, ◌∙◌, subst}
-use Rattle.core_terms.specs.Roles.{HasRoleShape}
+use Rattle.core_terms.specs.RoleTypes.{HasRoleShape}
 use Rattle.std.proofs.lemmas.Result.{IfOk-weaker}
 use Rattle.code_gen.specs.Programs.{program_in}
 use Rattle.core_terms.specs.Programs.{meaning, types_of}
@@ -9,7 +9,7 @@ use Rattle.core_terms.specs.TypeTables.{type_at}
 use Rattle.core_terms.specs.declared.program.Program.{Program}
 use Rattle.ideal_meaning.specs.Ideal as ideal
 use Rattle.mode_vm.specs.Meanings.{program_of}
-use Rattle.mode_vm.specs.StateCalls.{SpellsOutcome}
+use Rattle.ideal_meaning.specs.SpelledOutcomes.{SpellsOutcome}
 use Rattle.verifier_mode.specs.Verdicts.{IsTold}
 use Rattle.session_meaning.specs.Calls.{reads_state, state_made}
 use Rattle.session_meaning.specs.Client.{state_behind}

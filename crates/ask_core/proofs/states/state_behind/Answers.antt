@@ -3,7 +3,7 @@ use Rattle.std.proofs.lemmas.Result.{IfOk-weaker}
 use Rattle.core_terms.specs.Programs.{meaning, types_of}
 use Rattle.core_terms.specs.RoleViews.{role_kind_of}
 use Rattle.core_terms.specs.TypeTables.{type_at}
-use Rattle.mode_vm.specs.StateCalls.{SpellsOutcome}
+use Rattle.ideal_meaning.specs.SpelledOutcomes.{SpellsOutcome}
 use Rattle.verifier_mode.specs.Verdicts.{IsTold}
 use Rattle.ask_core.proofs.StatesBehind.{pair_lent, state_first, value_lent}
 use Rattle.ask_core.proofs.states.state_behind.Goals as goal

@@ -6,7 +6,8 @@ use Rattle.file_commands.proofs.Reached.{is_missing}
 use Rattle.file_commands.proofs.Steps.{hand_halts}
 use Rattle.journal_commands.proofs.CountsOnDisk.{halted_at}
 use Rattle.journal_commands.proofs.StopCauses.{halt_cause, is_err}
-use Rattle.auth_cli.specs.PreparedServers.{TellNumbers, numbers_of}
+use Rattle.auth_cli.specs.PreparedServers.{numbers_of}
+use Rattle.auth_cli.specs.ToldNumbers.{TellNumbers}
 use Rattle.auth_cli.proofs.HostReading.{hand_cause, host_read, journal_halts, memory_halts, numbers_halt, program_halts}
 use Rattle.auth_cli.proofs.ServeRuns.{same_numbers}
 use Rattle.auth_cli.proofs.hosting.read_hosting.Goals as goal

@@ -2,7 +2,8 @@ use Rattle.std.proofs.Common.{None, Err, inl, inr, refl, sym, subst, ◌∙◌}
 use Rattle.command_words.specs.Commands.{texts}
 use Rattle.command_words.specs.declared.command.Command.TheVariants.{Serve}
 use Rattle.file_commands.specs.Answer.{unserved_answer}
-use Rattle.auth_cli.specs.PreparedServers.{TellNumbers, IsPrepared, numbers_held}
+use Rattle.auth_cli.specs.PreparedServers.{IsPrepared, numbers_held}
+use Rattle.auth_cli.specs.ToldNumbers.{TellNumbers}
 use Rattle.auth_cli.specs.Serving.{MeansServing}
 use Rattle.file_commands.specs.declared.report.Report.{Report}
 use Rattle.file_commands.proofs.Ends.{ends_as, judging}

@@ -2,7 +2,8 @@ use Rattle.std.proofs.Common.{None, Err, ap, sym, subst, ◌∙◌}
 use Rattle.std.proofs.lemmas.Result.{err_from_is_err_and}
 use Rattle.code_gen.specs.Programs.{program_in}
 use Rattle.file_commands.specs.Answer.{Answer, Serving, unserved_answer, with_program_file}
-use Rattle.auth_cli.specs.PreparedServers.{TellNumbers, IsPrepared, with_beginning}
+use Rattle.auth_cli.specs.PreparedServers.{IsPrepared, with_beginning}
+use Rattle.auth_cli.specs.ToldNumbers.{TellNumbers}
 use Rattle.file_commands.specs.ReadPrograms.{digested_of, named_of}
 use Rattle.file_commands.specs.Reaching.{without}
 use Rattle.auth_cli.specs.declared.serving.Beginning.{Beginning}

@@ -1,7 +1,7 @@
 use Rattle.std.proofs.Common.{◌≡◌, ◌∙◌, Err, true, ap, sym, subst}
 use Rattle.std.specs.Prelude.{All}
 use Rattle.std.proofs.lemmas.Result.{err_from_is_err_and}
-use Rattle.core_terms.specs.ProgramLimits.{IsWithinLimits}
+use Rattle.core_terms.specs.ProgramSizes.{IsWithinLimits}
 use Rattle.core_terms.specs.ProgramTrees.{program_of as program_of_forms}
 use Rattle.core_terms.specs.Programs.{meaning, types_in}
 use Rattle.core_terms.specs.Typing.{is_shaped, is_typed}

@@ -1,5 +1,5 @@
 use Rattle.std.proofs.Common.{◌≡◌, true, sym, ap, ◌∙◌, subst}
-use Rattle.core_terms.specs.ProgramLimits.{IsWithinLimits}
+use Rattle.core_terms.specs.ProgramSizes.{IsWithinLimits}
 use Rattle.core_terms.specs.Typing.{is_shaped, is_typed}
 use Rattle.code_check.specs.ObjectParts.{parts_program}
 use Rattle.code_check.specs.declared.parts.Parts.{Parts}

@@ -1,6 +1,6 @@
 use Rattle.std.proofs.Common.{◌∙◌, [], length, set, ap, subst, sym}
 use Rattle.core_terms.proofs.SameTypes.{first_of}
-use Rattle.core_terms.specs.Accepted.{shape}
+use Rattle.core_terms.specs.CodeShapes.{shape}
 use Rattle.core_terms.specs.InstructionViews.{instructions_of}
 use Rattle.core_terms.specs.Kinds.{first_fault, function_fault}
 use Rattle.core_terms.specs.Programs.{types_in}

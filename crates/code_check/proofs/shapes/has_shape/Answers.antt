@@ -3,7 +3,7 @@ use Rattle.core_terms.specs.Programs.{types_in}
 use Rattle.core_terms.specs.ProgramTrees.{kind_of, types_at}
 use Rattle.core_terms.specs.Terms.{Query}
 use Rattle.core_terms.specs.TypeTables.{type_at}
-use Rattle.core_terms.specs.Typing.{shape_test}
+use Rattle.core_terms.specs.RoleShapes.{shape_test}
 use Rattle.core_terms.specs.declared.types.TyId.{TyId}
 use Rattle.code_check.specs.ObjectParts.{parts_program}
 use Rattle.code_check.proofs.shapes.has_shape.Goals as goal

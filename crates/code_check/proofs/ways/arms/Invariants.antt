@@ -1,5 +1,5 @@
 use Rattle.std.proofs.Common.{◌≡◌, ◌≤◌, List, drop, length}
-use Rattle.core_terms.specs.Accepted.{Shape}
+use Rattle.core_terms.specs.CodeShapes.{Shape}
 use Rattle.core_terms.specs.Kinds as kinds
 use Rattle.core_terms.specs.Programs.{types_in}
 use Rattle.code_check.specs.KnownTypes.{IsFrame, AreKnown}

@@ -2,7 +2,7 @@ use Rattle.std.proofs.Common.{◌+◌, ◌-◌, length, sym, ap, ◌∙◌, map}
 use Rattle.std.proofs.lemmas.List.{length-map}
 use Rattle.core_terms.specs.Programs.{types_of}
 use Rattle.core_terms.specs.InstructionViews.{instruction_of, instructions_of}
-use Rattle.code_gen.specs.Code as meant
+use Rattle.core_terms.specs.GeneratedCode as meant
 use Rattle.code_gen.proofs.Rows.{all_before}
 use Rattle.code_gen.proofs.Layouts.{end_of, length_laid, one_placed}
 use Rattle.code_gen.proofs.arms.laid_out.Goals as goal

@@ -1,7 +1,7 @@
 use Rattle.std.proofs.Common.{◌≡◌, map, take}
 use Rattle.core_terms.specs.Programs.{types_of}
 use Rattle.core_terms.specs.InstructionViews.{instructions_of}
-use Rattle.code_gen.specs.Code as meant
+use Rattle.core_terms.specs.GeneratedCode as meant
 use Rattle.code_gen.proofs.Layouts.{end_of}
 use Rattle.code_gen.proofs.arms.laid_out.Given as goal
 

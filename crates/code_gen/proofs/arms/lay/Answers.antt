@@ -3,7 +3,7 @@ use Rattle.std.specs.Vec.Iter.{into_iter_items}
 use Rattle.std.proofs.lemmas.List.{length-map}
 use Rattle.core_terms.specs.Programs.{types_of}
 use Rattle.core_terms.specs.InstructionViews.{instruction_of, instructions_of}
-use Rattle.code_gen.specs.Code.{jump_code, laid}
+use Rattle.core_terms.specs.GeneratedCode.{jump_code, laid}
 use Rattle.code_gen.proofs.Layouts.{arm_fits, left_later, one_laid}
 use Rattle.code_gen.proofs.arms.lay.Goals as goal
 

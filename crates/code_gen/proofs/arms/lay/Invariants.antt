@@ -2,7 +2,7 @@ use Rattle.std.proofs.Common.{◌≡◌, ◌++◌, length, map}
 use Rattle.std.specs.Vec.Iter.{into_iter_items, into_iter_len}
 use Rattle.core_terms.specs.Programs.{types_of}
 use Rattle.core_terms.specs.InstructionViews.{instructions_of}
-use Rattle.code_gen.specs.Code as meant
+use Rattle.core_terms.specs.GeneratedCode as meant
 use Rattle.code_gen.proofs.arms.lay.Given as goal
 
 -- with the arms that are left the code is that with all of them

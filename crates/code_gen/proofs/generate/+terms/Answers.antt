@@ -5,7 +5,7 @@ use Rattle.core_terms.proofs.TermViews.{expression-Constructor, expression-Call,
 use Rattle.code_gen.specs.CodeTrees.{all_of}
 use Rattle.core_terms.specs.InstructionViews.{instruction_of, instructions_of}
 use Rattle.core_terms.specs.Instructions as instruction
-use Rattle.code_gen.specs.Code.{arm_codes, code_of, operation_code}
+use Rattle.core_terms.specs.GeneratedCode.{arm_codes, code_of, operation_code}
 use Rattle.code_gen.proofs.Rows.{all_before, one_more, row_then}
 use Rattle.code_gen.proofs.ArmRows.{arms_more}
 use Rattle.code_gen.proofs.generate.+terms.Goals as goal

@@ -4,7 +4,8 @@ use Rattle.core_terms.specs.Programs.{meaning}
 use Rattle.core_terms.specs.ProgramTypes.{types_meaning}
 use Rattle.core_terms.specs.Values.{Value}
 use Rattle.core_terms.specs.declared.program_types.Types.{Types}
-use Rattle.piece_mirror.specs.Filled.{IsProverState, all_added, pieces_in}
+use Rattle.piece_mirror.specs.Filled.{all_added, pieces_in}
+use Rattle.piece_mirror.specs.FilledInCode.{IsProverState}
 use Rattle.piece_mirror.specs.Tables.{bytes_of}
 use Rattle.value_store.specs.Stores.{nodes_in}
 use Rattle.file_commands.specs.Answer.{pieces_answer, state_pieces}

@@ -5,7 +5,7 @@ use Rattle.core_terms.specs.declared.program.Program.{Program}
 use Rattle.code_gen.specs.Programs.{program_in}
 use Rattle.file_commands.specs.Answer.{with_program_file}
 use Rattle.file_commands.specs.ReadPrograms.{named_of}
-use Rattle.file_commands.specs.SoundPrograms.{IsOfTextOrObject}
+use Rattle.file_commands.specs.FilePrograms.{IsOfTextOrObject}
 use Rattle.file_commands.proofs.Steps.{halted}
 use Rattle.file_commands.proofs.machine_calls.read_code.Goals as goal
 

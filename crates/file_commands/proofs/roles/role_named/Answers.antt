@@ -1,7 +1,7 @@
 use Rattle.std.proofs.Common.{Bor, Err, sym, ap, ◌∙◌, subst, option_map}
 use Rattle.core_terms.specs.Programs.{meaning, types_of}
 use Rattle.core_terms.specs.RoleViews.{role_kind_of}
-use Rattle.core_terms.specs.Roles.{role_function}
+use Rattle.core_terms.specs.RoleTypes.{role_function}
 use Rattle.core_terms.specs.TypeTables.{type_at}
 use Rattle.core_terms.specs.declared.roles.RoleId.{RoleId}
 use Rattle.core_terms.specs.declared.roles.Role.{Role}

@@ -1,7 +1,8 @@
 use Rattle.std.proofs.Common.{◌≡◌, ℕ, List, Option, Some, None, refl, ap, sym, ◌∙◌, subst}
 use Rattle.std.proofs.lemmas.Result.{err_from_is_err_and}
 use Rattle.std.specs.Option.{ForSome}
-use Rattle.lam_outside.specs.Told.{Contents, StartsAt}
+use Rattle.lam_outside.specs.Told.{Contents}
+use Rattle.lam_outside.specs.FileSteps.{StartsAt}
 use Rattle.core_terms.specs.declared.program.Program.{Program}
 use Rattle.code_gen.specs.Programs.{program_in}
 use Rattle.file_commands.specs.Answer.{Answer, RoleCall, callee_of, verified_answer, with_bytes, with_fueled_role, with_role_call}

@@ -3,7 +3,7 @@ use Rattle.code_gen.specs.Programs.{program_in}
 use Rattle.core_terms.specs.Programs.{meaning}
 use Rattle.core_terms.specs.declared.outcome.Outcome.{Outcome}
 use Rattle.core_terms.specs.declared.program.Program.{Program}
-use Rattle.mode_vm.specs.StateCalls.{SpellsOutcome}
+use Rattle.ideal_meaning.specs.SpelledOutcomes.{SpellsOutcome}
 use Rattle.verifier_mode.specs.Verdicts.{IsTold}
 use Rattle.core_terms.specs.declared.byte_string.ByteString.{ByteString as Spelling}
 use Rattle.file_commands.specs.Answer.{accepted_answer, role_verdict}

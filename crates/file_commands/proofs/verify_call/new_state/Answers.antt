@@ -1,7 +1,7 @@
 use Rattle.std.proofs.Common.{subst}
 use Rattle.core_terms.specs.Programs.{meaning}
 use Rattle.verifier_mode.specs.Verdicts.{IsTold}
-use Rattle.mode_vm.specs.StateCalls.{SpellsOutcome}
+use Rattle.ideal_meaning.specs.SpelledOutcomes.{SpellsOutcome}
 use Rattle.file_commands.specs.RoleCalls.{result_called}
 use Rattle.file_commands.specs.RolesCalled.{role_of}
 use Rattle.file_commands.proofs.JudgedRoles.{pair_lent, state_stored, value_lent}

@@ -1,6 +1,6 @@
 use Rattle.std.proofs.Common.{◌≡◌}
 use Rattle.std.specs.Option.{ForSome}
-use Rattle.lam_outside.specs.Moments.{AtEachRead}
+use Rattle.lam_outside.specs.LinkSteps.{AtEachRead}
 use Rattle.piece_mirror.specs.Answers.{given_by}
 use Rattle.piece_mirror.specs.Tables.{bytes_of}
 use Rattle.wire_form.specs.MovedBytes.{Moves}

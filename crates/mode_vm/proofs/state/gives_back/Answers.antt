@@ -1,7 +1,7 @@
 use Rattle.std.proofs.Common.{Some, ap, sym, subst, ◌∙◌}
 use Rattle.core_terms.specs.Programs.{types_of}
 use Rattle.core_terms.specs.Bodies.{code_at}
-use Rattle.code_gen.specs.Code.{generated}
+use Rattle.core_terms.specs.GeneratedCode.{generated}
 use Rattle.core_terms.specs.InstructionViews.{instruction_of}
 use Rattle.code_gen.specs.Programs.{program_in}
 use Rattle.mode_vm.specs.Machines.{GivesBack}

@@ -1,6 +1,6 @@
 use Rattle.std.proofs.Common.{length, ◌-◌, ◌≡◌}
 use Rattle.core_terms.specs.Bodies.{code_at}
-use Rattle.code_gen.specs.Code.{generated}
+use Rattle.core_terms.specs.GeneratedCode.{generated}
 use Rattle.core_terms.specs.InstructionViews.{instructions_of}
 use Rattle.code_gen.specs.Programs.{program_in}
 use Rattle.core_terms.specs.Programs.{types_of}

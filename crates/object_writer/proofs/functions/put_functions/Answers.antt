@@ -8,7 +8,7 @@ use Rattle.core_terms.specs.ProgramTrees.{function_of}
 use Rattle.core_terms.specs.ProgramTypes.{named_table, types_by_number}
 use Rattle.core_terms.specs.TypeTables.{type_at}
 use Rattle.core_terms.specs.declared.program_types.Types.{Types}
-use Rattle.code_gen.specs.Code.{function_code}
+use Rattle.core_terms.specs.GeneratedCode.{function_code}
 use Rattle.code_gen.specs.Programs.{program_in}
 use Rattle.object_meaning.specs.ObjectBytes.{bytes_of_all, function_bytes}
 use Rattle.object_meaning.specs.WrittenObjects.{function_written}

@@ -6,7 +6,7 @@ use Rattle.core_terms.specs.ProgramTypes.{named_table, types_by_number}
 use Rattle.core_terms.specs.Programs.{meaning}
 use Rattle.core_terms.specs.TypeTables.{type_at}
 use Rattle.core_terms.specs.declared.program_types.Types.{Types}
-use Rattle.code_gen.specs.Code.{function_code}
+use Rattle.core_terms.specs.GeneratedCode.{function_code}
 use Rattle.code_gen.specs.Programs.{program_in}
 use Rattle.object_meaning.specs.WrittenObjects.{with_functions, with_instructions, with_type, with_types}
 use Rattle.object_writer.specs.Numberings.{AreTooMany, IsNumbering, listed}

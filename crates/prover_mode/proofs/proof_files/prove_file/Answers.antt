@@ -8,8 +8,8 @@ use Rattle.ideal_meaning.specs.Headline.{call_of}
 use Rattle.value_store.specs.Nodes.{AreSound}
 use Rattle.mode_vm.specs.Meanings.{program_of}
 use Rattle.reuse_buffer.specs.Kept.{Kept}
-use Rattle.prover_mode.specs.Calls.{IsAccepted, run_frames}
-use Rattle.prover_mode.specs.Counts.{again_in, fresh_in}
+use Rattle.prover_mode.specs.Calls.{IsAccepted}
+use Rattle.ideal_meaning.specs.RunFrames.{run_frames, again_in, fresh_in}
 use Rattle.prover_mode.proofs.Accepted.{file_accepted}
 use Rattle.prover_mode.proofs.CallParts.{holds_last}
 use Rattle.prover_mode.proofs.proof_files.prove_file.Goals as goal

@@ -4,7 +4,7 @@ use Rattle.core_terms.specs.ProgramTypes.{types_by_number, types_meaning}
 use Rattle.core_terms.specs.TypeTables.{type_at}
 use Rattle.ideal_meaning.specs.Ideal as ideal
 use Rattle.value_store.specs.Nodes.{AreSound}
-use Rattle.mode_vm.specs.StateCalls.{SpellsOutcome}
+use Rattle.ideal_meaning.specs.SpelledOutcomes.{SpellsOutcome}
 use Rattle.prover_mode.proofs.SpelledOutcomes.{done_shows, tells_done, tells_out, tells_trap}
 use Rattle.prover_mode.proofs.spelling.spelled_outcome.Goals as goal
 use Rattle.prover_mode.proofs.spelling.spelled_outcome.Goals.{in-Done+in_ok-spell-in-Done, in-Trapped, in-Out}

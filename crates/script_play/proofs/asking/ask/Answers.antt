@@ -2,9 +2,11 @@ use Rattle.std.proofs.Common.{◌≡◌, Result, Ok, Err, Bool, sym, ap, ◌∙�
 use Rattle.session_meaning.specs.Client.{OutOfTurn, new_client}
 use Rattle.verifier_mode.proofs.Given.{gives_with}
 use Rattle.wire_form.specs.MessageViews.{request_meant}
-use Rattle.script_play.specs.Halting.{HaltsAt, OnLinkFault}
+use Rattle.script_play.specs.Halting.{HaltsAt}
+use Rattle.script_play.specs.HaltingInCode.{OnLinkFault}
 use Rattle.script_play.specs.Plays.{asked_play, rests}
-use Rattle.script_play.specs.Playing.{Answers, IsAnswered, PlayCause, PlaysAs, is_sending, world}
+use Rattle.script_play.specs.Playing.{PlaysAs, world}
+use Rattle.script_play.specs.PlayingInCode.{Answers, IsAnswered, PlayCause, is_sending}
 use Rattle.script_play.proofs.Asked.{asked_told, asked_unsent, fault_answered, fault_sends, is_answered, plays_err}
 use Rattle.script_play.proofs.HaltedLines.{request_halts}
 use Rattle.script_play.proofs.Steps.{cause_err}

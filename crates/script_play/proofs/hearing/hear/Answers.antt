@@ -13,7 +13,7 @@ use Rattle.ask_core.specs.Sessions.{IsCalledRole, StandsFor}
 use Rattle.script_play.specs.Plays.{goes_behind, hears}
 use Rattle.script_play.specs.DeedLines.{answer_line}
 use Rattle.script_play.specs.Tellings.{OfAnswer, makes_state, state_if}
-use Rattle.script_play.specs.Playing.{names_of, own_of}
+use Rattle.script_play.specs.PlayingInCode.{names_of, own_of}
 use Rattle.script_play.proofs.Heard.{waited}
 use Rattle.script_play.proofs.HeardReplies.{fewer_wait, heard_answer, heard_called, heard_known, heard_stands, heard_telling, session_fits}
 use Rattle.script_play.proofs.Steps.{ok_map, ok_map2, ok_map4}

@@ -3,7 +3,7 @@ use Rattle.core_terms.proofs.CodePrograms.{is_format}
 use Rattle.core_terms.specs.Programs.{constructor_names, meaning, types_of}
 use Rattle.core_terms.specs.TypeTables.{type_at}
 use Rattle.core_terms.specs.declared.outcome.Outcome.TheVariants.{Done}
-use Rattle.mode_vm.specs.StateCalls.{SpellsOutcome}
+use Rattle.ideal_meaning.specs.SpelledOutcomes.{SpellsOutcome}
 use Rattle.script_play.specs.DeedLines.{outcome_line}
 use Rattle.script_play.proofs.Steps.{ok_map}
 use Rattle.script_play.proofs.Told.{done_line}

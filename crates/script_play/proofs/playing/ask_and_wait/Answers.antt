@@ -6,9 +6,10 @@ use Rattle.wire_form.proofs.Moving.{moves_on}
 use Rattle.session_meaning.specs.Client.{waits}
 use Rattle.session_meaning.specs.Messages.{messages, reply_of}
 use Rattle.ask_core.specs.Sessions.{StandsFor}
-use Rattle.script_play.specs.Halting.{PlaysTo}
+use Rattle.script_play.specs.HaltingInCode.{PlaysTo}
 use Rattle.script_play.specs.Plays.{asked_play, take_replies}
-use Rattle.script_play.specs.Playing.{AreComing, PlayCause, PlaysAs, names_of, own_of, world}
+use Rattle.script_play.specs.Playing.{AreComing, PlaysAs, world}
+use Rattle.script_play.specs.PlayingInCode.{PlayCause, names_of, own_of}
 use Rattle.script_play.proofs.Asked.{answered_stands, answers_any, still_coming}
 use Rattle.script_play.proofs.HaltedLines.{line_halts, line_more, line_prompt, line_told}
 use Rattle.script_play.proofs.Played.{asked_halts, more_plays, same_moved, told_alone}

@@ -2,12 +2,14 @@ use Rattle.std.proofs.Common.{◌≡◌, sym, ap, ◌∙◌, subst}
 use Rattle.mode_vm.specs.Meanings.{program_of}
 use Rattle.verifier_mode.proofs.Given.{gives_with}
 use Rattle.lam_outside.proofs.Waiting.{none_read}
-use Rattle.lam_outside.specs.Moments.{AtEachRead}
-use Rattle.ask_core.specs.Sessions.{StandsFor, some_calls, some_waits}
+use Rattle.lam_outside.specs.LinkSteps.{AtEachRead}
+use Rattle.ask_core.specs.Sessions.{StandsFor}
+use Rattle.session_meaning.specs.Waiting.{some_calls, some_waits}
 use Rattle.session_meaning.specs.Messages.{Go}
-use Rattle.script_play.specs.Halting.{PlaysTo}
+use Rattle.script_play.specs.HaltingInCode.{PlaysTo}
 use Rattle.script_play.specs.Plays.{lets_run, most_rounds, take_replies}
-use Rattle.script_play.specs.Playing.{PlayCause, PlaysAs, names_of, own_of, world}
+use Rattle.script_play.specs.Playing.{PlaysAs, world}
+use Rattle.script_play.specs.PlayingInCode.{PlayCause, names_of, own_of}
 use Rattle.script_play.specs.Prompt.{IsPromptOn}
 use Rattle.script_play.proofs.Asked.{sent_world, still_coming}
 use Rattle.script_play.proofs.HaltedLines.{run_halts, run_more, run_prompt}

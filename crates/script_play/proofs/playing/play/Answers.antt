@@ -6,14 +6,15 @@ use Rattle.core_terms.specs.declared.program.Program.{Program}
 use Rattle.mode_vm.specs.Meanings.{program_of}
 use Rattle.verifier_mode.proofs.Given.{gives_with}
 use Rattle.lam_outside.proofs.Waiting.{none_read}
-use Rattle.lam_outside.specs.Moments.{AtEachRead}
+use Rattle.lam_outside.specs.LinkSteps.{AtEachRead}
 use Rattle.wire_form.proofs.Moving.{moves_on}
 use Rattle.ask_core.specs.Sessions.{StandsFor}
 use Rattle.ask_script.specs.ScriptAnswers.{step_meant}
 use Rattle.ask_script.specs.Scripts.{Fits}
-use Rattle.script_play.specs.Halting.{PlaysTo}
+use Rattle.script_play.specs.HaltingInCode.{PlaysTo}
 use Rattle.script_play.specs.Plays.{play, play_step}
-use Rattle.script_play.specs.Playing.{PlaysAs, names_of, own_of, world}
+use Rattle.script_play.specs.Playing.{PlaysAs, world}
+use Rattle.script_play.specs.PlayingInCode.{names_of, own_of}
 use Rattle.script_play.specs.Prompt.{IsPromptOn}
 use Rattle.script_play.proofs.Awaited.{prompt_more}
 use Rattle.script_play.proofs.Halted.{begins_to, breaks_to, ends_to, goes_on_to}

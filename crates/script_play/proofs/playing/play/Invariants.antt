@@ -2,13 +2,14 @@ use Rattle.std.proofs.Common.{◌≡◌, ℕ, List, Some, drop, map}
 use Rattle.mode_vm.specs.Meanings.{program_of}
 use Rattle.session_meaning.specs.Client.{Client}
 use Rattle.session_meaning.specs.Messages.{Messages, Reply}
-use Rattle.lam_outside.specs.Moments.{AtEachRead}
+use Rattle.lam_outside.specs.LinkSteps.{AtEachRead}
 use Rattle.wire_form.specs.MovedBytes.{Moves}
 use Rattle.ask_core.specs.Sessions.{StandsFor, StandsForSome}
 use Rattle.ask_script.specs.ScriptAnswers.{step_meant}
-use Rattle.script_play.specs.Halting.{TakesSoFar}
+use Rattle.script_play.specs.HaltingInCode.{TakesSoFar}
 use Rattle.script_play.specs.Plays.{play}
-use Rattle.script_play.specs.Playing.{AreComing, names_of, own_of, world}
+use Rattle.script_play.specs.Playing.{AreComing, world}
+use Rattle.script_play.specs.PlayingInCode.{names_of, own_of}
 use Rattle.script_play.specs.Prompt.{IsPromptOn}
 use Rattle.script_play.proofs.Worlds.{SoFar}
 use Rattle.script_play.proofs.playing.play.Given as goal

@@ -4,7 +4,7 @@ use Rattle.core_terms.proofs.CodePrograms.{is_format}
 use Rattle.mode_vm.specs.Meanings.{program_of}
 use Rattle.verifier_mode.proofs.Given.{gives_with}
 use Rattle.lam_outside.proofs.Waiting.{none_read}
-use Rattle.lam_outside.specs.Moments.{AtEachRead}
+use Rattle.lam_outside.specs.LinkSteps.{AtEachRead}
 use Rattle.session_meaning.specs.Client.{Byes, Calls, Hellos, take_event, waits}
 use Rattle.session_meaning.specs.Messages.{messages, reply_of}
 use Rattle.session_tables.specs.Tables.{rows_of}
@@ -13,9 +13,10 @@ use Rattle.ask_core.specs.Clients.{IsClient}
 use Rattle.ask_core.specs.Sessions.{StandsFor}
 use Rattle.ask_script.specs.ScriptAnswers.{step_meant}
 use Rattle.ask_script.specs.Scripts.{Fits}
-use Rattle.script_play.specs.Halting.{PlaysTo}
+use Rattle.script_play.specs.HaltingInCode.{PlaysTo}
 use Rattle.script_play.specs.Plays.{asked_play, play_step, rests, take_replies}
-use Rattle.script_play.specs.Playing.{PlaysAs, names_of, own_of, world}
+use Rattle.script_play.specs.Playing.{PlaysAs, world}
+use Rattle.script_play.specs.PlayingInCode.{names_of, own_of}
 use Rattle.script_play.specs.Prompt.{IsPromptOn}
 use Rattle.script_play.proofs.Asked.{answered_stands, answers_any}
 use Rattle.script_play.proofs.HaltedLines.{line_alone, line_halts}

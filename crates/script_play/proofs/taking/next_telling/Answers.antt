@@ -1,7 +1,7 @@
 use Rattle.mode_vm.specs.Meanings.{program_of}
 use Rattle.wire_form.specs.MessageViews.{reply_meant}
 use Rattle.ask_core.specs.Sessions.{StandsFor}
-use Rattle.script_play.specs.Playing.{names_of, own_of}
+use Rattle.script_play.specs.PlayingInCode.{names_of, own_of}
 use Rattle.script_play.proofs.Awaited.{waits_for_reply}
 use Rattle.script_play.proofs.Halted.{none_taken, reply_taken}
 use Rattle.script_play.proofs.HeardReplies.{next_reply, next_stop}

@@ -1,8 +1,9 @@
 use Rattle.mode_vm.specs.Meanings.{program_of}
 use Rattle.verifier_mode.proofs.Given.{gives_with}
 use Rattle.ask_core.specs.Sessions.{StandsFor}
-use Rattle.script_play.specs.Halting.{PlaysTo}
-use Rattle.script_play.specs.Playing.{PlayCause, PlaysAs, names_of, own_of, take_one, world}
+use Rattle.script_play.specs.HaltingInCode.{PlaysTo}
+use Rattle.script_play.specs.Playing.{PlaysAs, world}
+use Rattle.script_play.specs.PlayingInCode.{PlayCause, names_of, own_of, take_one}
 use Rattle.script_play.specs.declared.telling.Telling.{Telling}
 use Rattle.script_play.proofs.Halted.{cut_played, reply_played}
 use Rattle.script_play.proofs.Steps.{cause_after, cause_err, cut_so, next_plays}

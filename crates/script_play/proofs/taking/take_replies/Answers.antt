@@ -2,9 +2,10 @@ use Rattle.std.proofs.Common.{Ok, Err, sym, ◌∙◌, subst, refl}
 use Rattle.mode_vm.specs.Meanings.{program_of}
 use Rattle.verifier_mode.proofs.Given.{gives_with}
 use Rattle.ask_core.specs.Sessions.{StandsFor}
-use Rattle.script_play.specs.Halting.{PlaysTo}
+use Rattle.script_play.specs.HaltingInCode.{PlaysTo}
 use Rattle.script_play.specs.Plays.{take_replies}
-use Rattle.script_play.specs.Playing.{PlaysAs, names_of, own_of, take_one, waits_for, world}
+use Rattle.script_play.specs.Playing.{PlaysAs, world}
+use Rattle.script_play.specs.PlayingInCode.{names_of, own_of, take_one, waits_for}
 use Rattle.wire_form.proofs.Moving.{moves_on}
 use Rattle.lam_outside.proofs.Waiting.{none_read}
 use Rattle.script_play.proofs.Awaited.{awaits_more}

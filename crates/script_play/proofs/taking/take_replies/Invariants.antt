@@ -4,10 +4,11 @@ use Rattle.session_meaning.specs.Client.{Client}
 use Rattle.session_meaning.specs.Messages.{Messages, Reply}
 use Rattle.wire_form.specs.MovedBytes.{Moves}
 use Rattle.ask_core.specs.Sessions.{StandsFor, StandsForSome, sessions_waiting}
-use Rattle.script_play.specs.Halting.{TakesSoFar}
+use Rattle.script_play.specs.HaltingInCode.{TakesSoFar}
 use Rattle.script_play.specs.Plays.{take_replies}
-use Rattle.script_play.specs.Playing.{AreComing, names_of, own_of, waits_for, world}
-use Rattle.lam_outside.specs.Moments.{AtEachRead}
+use Rattle.script_play.specs.Playing.{AreComing, world}
+use Rattle.script_play.specs.PlayingInCode.{names_of, own_of, waits_for}
+use Rattle.lam_outside.specs.LinkSteps.{AtEachRead}
 use Rattle.script_play.specs.Prompt.{IsPromptOn}
 use Rattle.script_play.proofs.Worlds.{SoFar}
 use Rattle.script_play.proofs.taking.take_replies.Given as goal

@@ -4,9 +4,9 @@ use Rattle.session_turns.specs.Keepers.{HasStayed, KeepsBetween}
 use Rattle.serve_core.specs.Serving.{Serves}
 use Rattle.session_meaning.specs.Server.{Server, messages_limit}
 use Rattle.wire_form.specs.MovedBytes.{Moves}
-use Rattle.serve_links.specs.Histories.{HasSameCode, HasServed, own_digest, program_served, turns_of}
+use Rattle.serve_links.specs.HistoriesInCode.{HasSameCode, HasServed, own_digest, program_served, turns_of}
 use Rattle.serve_links.specs.Prompt.{IsPrompt}
-use Rattle.lam_outside.specs.Moments.{AtEachRead}
+use Rattle.lam_outside.specs.LinkSteps.{AtEachRead}
 use Rattle.serve_links.proofs.SoFar.{IsSoFar}
 use Rattle.serve_links.proofs.connection.serve_link.Given as goal
 

@@ -3,7 +3,7 @@ use Rattle.std.specs.List.{AllByRecursion}
 use Rattle.core_terms.specs.Formats.{IsHash}
 use Rattle.code_gen.specs.declared.code.Code.{Code}
 use Rattle.mode_vm.specs.Meanings.{program_of}
-use Rattle.session_meaning.specs.Messages.{IsReply}
+use Rattle.session_meaning.specs.MessageFields.{IsReply}
 use Rattle.session_turns.specs.Keepers.{AreKeepable, KeepsBetween}
 use Rattle.session_turns.specs.Sharing.{Shares}
 use Rattle.session_turns.specs.declared.shared.Shared.{Shared}
@@ -13,7 +13,7 @@ use Rattle.serve_core.specs.Serving.{heard_meant}
 use Rattle.serve_core.proofs.Steps.{without_sessions}
 use Rattle.serve_core.proofs.StoppedBehind.{stopped_behind}
 use Rattle.serve_links.specs.Connections.{bytes_of}
-use Rattle.serve_links.specs.Histories.{own_digest, program_served, step_of, turns_of}
+use Rattle.serve_links.specs.HistoriesInCode.{own_digest, program_served, step_of, turns_of}
 use Rattle.serve_links.proofs.Answering.{part_sent, stops}
 use Rattle.serve_links.proofs.Growing.{stopped_grows}
 use Rattle.serve_links.proofs.Keepable.{commits_fit}

@@ -6,8 +6,8 @@ use Rattle.session_turns.specs.Keepers.{HasStayed}
 use Rattle.serve_core.specs.Serving.{Serves}
 use Rattle.link_ends.proofs.FaultsTold.{IsFaultTold}
 use Rattle.serve_links.specs.Connections.{AnyKept}
-use Rattle.serve_links.specs.Histories.{HasSameCode, HasServed}
-use Rattle.serve_links.specs.ServedLinks.{AreMoreServed}
+use Rattle.serve_links.specs.HistoriesInCode.{HasSameCode, HasServed}
+use Rattle.serve_links.specs.ServedLinksInCode.{AreMoreServed}
 use Rattle.serve_links.proofs.net.serve_links.Given as goal
 
 abbrev pub invariant-loop : goal.invariant-loop

@@ -4,7 +4,8 @@ use Rattle.std.proofs.lemmas.Option.{slice_get_read}
 use Rattle.core_terms.specs.Programs.{meaning, types_of}
 use Rattle.core_terms.specs.Projection.{digest_at}
 use Rattle.core_terms.specs.RoleViews.{role_of}
-use Rattle.core_terms.specs.Roles.{HasRoleShape, program_roles}
+use Rattle.core_terms.specs.Roles.{program_roles}
+use Rattle.core_terms.specs.RoleTypes.{HasRoleShape}
 use Rattle.core_terms.specs.Terms.{function_at}
 use Rattle.core_terms.specs.declared.outcome.Outcome.{Outcome}
 use Rattle.core_terms.specs.declared.program.Program.{Program}

@@ -1,6 +1,6 @@
 use Rattle.std.proofs.Common.{◌≡◌, ◌≤◌, ◌-◌, ℕ, List, Some, length}
 use Rattle.std.specs.Io.KnownBytes.{append_known, prepend_known}
-use Rattle.lam_outside.specs.Moments.{AtEachRead, WaitsWithin}
+use Rattle.lam_outside.specs.LinkSteps.{AtEachRead, WaitsWithin}
 use Rattle.wire_form.proofs.incoming.read_body.Given as goal
 
 abbrev pub invariant-loop-chunk : goal.invariant-loop-chunk

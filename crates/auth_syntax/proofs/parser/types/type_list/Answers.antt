@@ -2,7 +2,7 @@ use Rattle.std.proofs.Common.{List}
 use Rattle.lexemes.specs.Tokens.{count}
 use Rattle.lexemes.specs.Readings.{read_separator}
 use Rattle.lexemes.specs.Remaining.{remaining}
-use Rattle.auth_syntax.specs.Grammar.{nesting_limit}
+use Rattle.auth_syntax.specs.Nesting.{nesting_limit}
 use Rattle.auth_syntax.specs.Parsing.{read_list, read_whole_type}
 use Rattle.auth_syntax.specs.Syntax.{TypeSyntax}
 use Rattle.auth_syntax.specs.Trees.{type_of, types_of}

@@ -2,7 +2,7 @@ use Rattle.std.proofs.Common.{Ok, sym, ◌∙◌, subst}
 use Rattle.proof_stream.specs.Readers.{limit_of, piece_of}
 use Rattle.proof_stream.specs.TakenFrames.{TakesFrame}
 use Rattle.proof_stream.specs.declared.frame.Frame.{Frame}
-use Rattle.collision_audit.specs.AuditAnswers.{AuditCause}
+use Rattle.collision_audit.specs.AuditsInCode.{AuditCause}
 use Rattle.collision_audit.proofs.Taking.{takes_new, takes_kept, takes_none}
 use Rattle.collision_audit.proofs.offers.Offers.take.Goals as goal
 

@@ -1,7 +1,7 @@
 use Rattle.std.proofs.Common.{◌≡◌, true, length, Vec, refl, nat_lt}
 use Rattle.std.specs.List.{list_all}
 use Rattle.std.specs.declared.alloc.Global.{Global}
-use Rattle.core_terms.specs.ProgramLimits.{IsWithinLimits}
+use Rattle.core_terms.specs.ProgramSizes.{IsWithinLimits}
 use Rattle.core_terms.specs.ProgramTrees.{has_fields_below, has_types_below, is_within}
 use Rattle.core_terms.specs.ProgramParts.{compiled_program}
 use Rattle.core_terms.specs.TypeTables.{types_of_forms}

@@ -1,6 +1,6 @@
 use Rattle.std.proofs.Common.{◌∙◌, sym, ap, option_map}
 use Rattle.core_terms.specs.Programs.{meaning, types_of}
-use Rattle.core_terms.specs.Roles.{role_function}
+use Rattle.core_terms.specs.RoleTypes.{role_function}
 use Rattle.core_terms.proofs.FoundRoles.{role_by_name}
 use Rattle.core_terms.proofs.program.Program.role.Goals as goal
 

@@ -4,7 +4,8 @@ use Rattle.std.proofs.lemmas.Option.{slice_get_read}
 use Rattle.core_terms.specs.Programs.{meaning, types_of}
 use Rattle.core_terms.specs.Projection.{digest_at}
 use Rattle.core_terms.specs.RoleViews.{role_kind_of, role_of}
-use Rattle.core_terms.specs.Roles.{HasRoleShape, argument_type, program_roles}
+use Rattle.core_terms.specs.Roles.{argument_type, program_roles}
+use Rattle.core_terms.specs.RoleTypes.{HasRoleShape}
 use Rattle.core_terms.specs.declared.program.Program.{Program}
 use Rattle.code_gen.specs.Programs.{program_in}
 use Rattle.mode_vm.specs.Meanings.{program_of}

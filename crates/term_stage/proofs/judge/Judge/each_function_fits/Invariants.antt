@@ -1,6 +1,6 @@
 use Rattle.std.proofs.Common.{◌≤◌, ◌+◌, drop, map, take}
 use Rattle.std.specs.Prelude.{All}
-use Rattle.core_terms.specs.ProgramLimits.{expressions_in_all}
+use Rattle.core_terms.specs.ProgramSizes.{expressions_in_all}
 use Rattle.core_terms.specs.ProgramTrees.{function_of}
 use Rattle.core_terms.specs.Programs.{types_in}
 use Rattle.term_stage.specs.Fitting.{FunctionFits, judged}

@@ -4,7 +4,7 @@ use Rattle.core_terms.specs.ProgramTrees.{kind_of, types_at}
 use Rattle.core_terms.specs.Roles.{has_auth}
 use Rattle.core_terms.specs.TypeTables.{type_at}
 use Rattle.core_terms.specs.Types.{Ty}
-use Rattle.core_terms.specs.Typing.{shape_test}
+use Rattle.core_terms.specs.RoleShapes.{shape_test}
 use Rattle.core_terms.specs.declared.types.TyId.{TyId}
 use Rattle.term_stage.specs.Fitting.{judged}
 use Rattle.term_stage.proofs.Shaped.{query_shaped, update_shaped}

@@ -2,9 +2,9 @@
 use Rattle.std.specs.Prelude.{ℕ, zero, suc, ◌+◌, List, [], ◌∷◌, ◌++◌, length, map, unwrap_or, slice_get, Option, Some, None}
 use Rattle.core_terms.specs.Types.{Ty, Table}
 use Rattle.core_terms.specs.Terms.{Expression, UnitE, BoolE, IntE, TextE, LocalE, PairE, FstE, SndE, NotE, LenE, AuthE, UnauthE, ConE, ArithE, CompareE, TextCompareE, CatE, LetE, IfE, MatchE, CallE, OperateE, Operation, Expressions, NoE, AndE, Arms, NoArm, AndArm, Function, Program, coded}
-pub use Rattle.core_terms.specs.Bodies.{FunctionCode, Body, no_function_code, code_at, field_count}
 use Rattle.core_terms.specs.Instructions.{Instruction, PushUnit, PushBool, PushInt, PushText, Load, Bind, Unbind, Pair, Fst, Snd, Make, Switch, Branch, Jump, Call, Return, Auth, Unauth, ArithOp, CompareOp, TextCompareOp, Cat, Len, Not, VecFill, VecGet, VecPut}
 use Rattle.core_terms.specs.Terms as tree
+pub use Rattle.core_terms.specs.Bodies.{FunctionCode, Body, no_function_code, code_at, field_count}
 
 -- A choice between two sides: where the test is false, the first side and the jump behind it are passed over; that jump passes
 -- over the other side.

@@ -1,0 +1,17 @@
+-- The numbers that serving tells.
+use Rattle.std.specs.Prelude.{◌≡◌, ℕ, List, Option}
+use Rattle.file_commands.specs.Answer.{Answer, Serving, ServingNumbers, with_serving_numbers, with_number}
+use Rattle.printed_lines.specs.declared.refusal.Argument.TheVariants as named
+use Rattle.file_commands.specs.Arguments.{most_port, positive_within}
+
+-- the numbers of a serving, and those that the server holds
+abbrev pub numbers_served : Serving → ServingNumbers
+numbers_served s = record { port = s.port; links = s.links; slice = s.slice }
+
+-- The words tell these numbers: with them it is gone on, whatever the files hold.
+abbrev pub TellNumbers : (port links slice : List ℕ) → ServingNumbers → Type 0
+TellNumbers port links slice numbers = (go : ServingNumbers → Option Answer) → with_serving_numbers port links slice go ≡ go numbers
+
+-- The word tells this port: with it it is gone on, whatever the files hold.
+abbrev pub TellsPort : (word : List ℕ) → (port : ℕ) → Type 0
+TellsPort word port = (go : ℕ → Option Answer) → with_number named.Port (positive_within most_port word) go ≡ go port
