@@ -1,12 +1,16 @@
--- Which instructions change the running frame alone, and which ask nothing of the mode.
+-- Which instructions change the running frame alone, and which ask nothing of the mode; and a frame that stands before one.
 use Rattle.std.proofs.Common.{◌≡◌, true, false, List, refl, subst}
+use Rattle.core_terms.specs.Terms.{Program}
 use Rattle.core_terms.specs.Types.{Ty}
+use Rattle.value_store.specs.Markings.{Marking}
+use Rattle.value_store.specs.Nodes.{Node}
 use Rattle.core_terms.specs.declared.program.FunctionId.{FunctionId}
 use Rattle.core_terms.specs.declared.types.TyId.{TyId}
 use Rattle.core_terms.specs.InstructionViews.{instruction_of}
 use Rattle.core_terms.specs.declared.instruction.Instruction.{Instruction}
 use Rattle.core_terms.specs.declared.instruction.Instruction.TheVariants.{Call, Return, Auth, Unauth}
-use Rattle.mode_vm.specs.Machines.{is_own, is_plain}
+use Rattle.mode_vm.specs.Machines.{Before, ValueFrame, is_own, is_plain}
+use Rattle.mode_vm.specs.declared.frame.Frame.{Frame}
 use Rattle.mode_vm.specs.NodesPut.{works_in_hand}
 
 -- what is no call and no return, and asks nothing of the mode, changes the running frame alone
@@ -28,3 +32,8 @@ asked types i t is in_hand = let clash : false ≡ true = subst (λ i. works_in_
 
 pub opened : (types : List Ty) (i : Instruction) (t : TyId) → i ≡ Unauth t → works_in_hand (instruction_of types i) ≡ true → ⊥
 opened types i t is in_hand = let clash : false ≡ true = subst (λ i. works_in_hand (instruction_of types i) ≡ true) is in_hand in cc
+
+-- the frame stands before the instruction that it is
+pub before : (P : Program) (types : List Ty) (m : Marking) (nodes : List Node) (frame : Frame) (values : ValueFrame) (i j : Instruction) → i ≡ j
+    → Before m P nodes frame (instruction_of types i) values → Before m P nodes frame (instruction_of types j) values
+before P types m nodes frame values i j is b = subst (λ i. Before m P nodes frame (instruction_of types i) values) is b

@@ -4,7 +4,7 @@ use Rattle.core_terms.specs.Types.{Ty}
 use Rattle.core_terms.specs.Values.{Values}
 use Rattle.core_terms.specs.Terms.{Program, function_at}
 use Rattle.ideal_meaning.specs.Run.{Ends, IsOut}
-use Rattle.core_terms.specs.Instructions.{Instruction, Unbind, Jump, Call, Return, Auth, Unauth}
+use Rattle.core_terms.specs.Instructions.{Instruction, PushText, Unbind, Jump, Call, Return, Auth, Unauth, TextCompareOp, Cat, Len, VecFill, VecGet, VecPut}
 use Rattle.core_terms.specs.Bodies.{code_at}
 use Rattle.core_terms.specs.GeneratedCode.{generated}
 use Rattle.code_gen.specs.CodeSizes.{code_size}
@@ -180,3 +180,14 @@ abbrev pub is_own : Instruction → Bool
 is_own (Call f) = false
 is_own Return = false
 is_own i = is_plain i
+
+-- one that works on texts or on arrays, which is rare
+abbrev pub is_rare : Instruction → Bool
+is_rare (PushText bytes) = true
+is_rare (TextCompareOp op) = true
+is_rare Cat = true
+is_rare Len = true
+is_rare (VecFill n) = true
+is_rare VecGet = true
+is_rare VecPut = true
+is_rare i = false

@@ -33,6 +33,7 @@ impl Frame {
     }
 
     /// Pops a bool, and passes over some instructions where it is false.
+    #[inline(always)]
     pub(crate) fn branch<N: Nodes>(
         &mut self,
         code: &Code,
@@ -68,6 +69,7 @@ impl Frame {
     }
 
     /// Pops a value of a named type, makes its fields the next locals, and passes over as many instructions as its tag says.
+    #[inline(always)]
     pub(crate) fn switch<N: Nodes>(
         &mut self,
         code: &Code,

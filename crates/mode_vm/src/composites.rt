@@ -27,6 +27,7 @@ impl Frame {
     ghost use Rattle.mode_vm.specs.Outcomes.{Does, IsBefore};
 
     /// Pushes the pair of the two top operands, where it is within the limits.
+    #[inline(always)]
     pub(crate) fn pair<N: Nodes>(
         &mut self,
         code: &Code,
@@ -77,6 +78,7 @@ impl Frame {
     }
 
     /// Pushes a constructor value of as many operands as the constructor has fields, where it is within the limits.
+    #[inline(always)]
     pub(crate) fn make<N: Nodes>(
         &mut self,
         code: &Code,
@@ -100,6 +102,7 @@ impl Frame {
 }
 
 /// Puts a pair, where it is within the limits.
+#[inline(always)]
 fn new_pair<N: Nodes>(
     store: &mut N,
     first: Ref,
@@ -123,6 +126,7 @@ fn new_pair<N: Nodes>(
 }
 
 /// The number of fields of a constructor; 0 where there is no such constructor.
+#[inline(always)]
 fn field_count(types: &Types, named: NamedId, tag: Tag) -> usize
     ensures { result ≡ code_meant.field_count (named_table types.now) named.0 tag.0 }
 {
@@ -133,6 +137,7 @@ fn field_count(types: &Types, named: NamedId, tag: Tag) -> usize
 }
 
 /// Puts a constructor value, where it is within the limits.
+#[inline(always)]
 fn new_constructor<N: Nodes>(
     store: &mut N,
     named: NamedId,

@@ -36,7 +36,7 @@ pub struct Waiting {
 }
 
 impl Frame {
-    ghost use Rattle.mode_vm.specs.Machines.{is_own};
+    ghost use Rattle.mode_vm.specs.Machines.{is_own, is_rare};
     ghost use Rattle.mode_vm.specs.NodesPut.{works_in_hand};
     ghost use Rattle.mode_vm.specs.Outcomes.{Does, IsBefore};
     ghost use Rattle.mode_vm.specs.StateParts.{BecomesCall, BeginsCall, Finishes, IsAt, frame_in};
@@ -84,6 +84,7 @@ impl Frame {
 
     /// Becomes the frame of another function, which is called on as many of the topmost operands. What is told is to go on behind the
     /// call.
+    #[inline(always)]
     pub(crate) fn begin_call(
         &mut self,
         callee: FunctionId,
@@ -108,6 +109,7 @@ impl Frame {
     }
 
     /// Becomes the frame of another function, which is called on as many of the topmost operands, and for which this one doesn't wait.
+    #[inline(always)]
     pub(crate) fn become_call(&mut self, callee: FunctionId, count: usize) -> Result<(), AllocError>
         requires { count ≤ length self.old.operands.items }
         ensures { OnOk result (BecomesCall self.old callee.0 count self.new) }
@@ -121,6 +123,7 @@ impl Frame {
     }
 
     /// Becomes the frame that waits, and drops what this one has.
+    #[inline(always)]
     pub(crate) fn resume(&mut self, caller: Waiting)
         requires locals { caller.local_base ≤ length self.old.locals.below }
         requires operands { caller.operand_base ≤ length self.old.operands.below }
@@ -169,7 +172,6 @@ impl Frame {
             Instruction::PushUnit => self.push_unit(code, store),
             Instruction::PushBool(value) => self.push_bool(code, store, *value),
             Instruction::PushInt(value) => self.push_int(code, store, *value),
-            Instruction::PushText(text) => self.push_text(code, store, text),
             Instruction::Load(local) => self.load(code, store, *local),
             Instruction::Bind => self.bind(code, store),
             Instruction::Unbind(count) => self.unbind(code, store, *count),
@@ -182,17 +184,41 @@ impl Frame {
             Instruction::Jump(skip) => self.jump(code, store, *skip),
             Instruction::Arith(op) => self.arith(code, store, *op),
             Instruction::Compare(op) => self.compare(code, store, *op),
+            Instruction::Not => self.not(code, store),
+            // The call gets a result of its own: LLVM keeps none in registers whose address a call takes, and then each frequent
+            // instruction would pay for the rare ones.
+            _ => Ok(self.act_rarely(code, store, instruction)?),
+        }
+    }
+
+    /// Does one of the rare instructions.
+    // Were it inlined, the code of the rare ones would stand among that of the frequent ones.
+    #[inline(never)]
+    fn act_rarely<N: Nodes>(
+        &mut self,
+        code: &Code,
+        store: &mut N,
+        instruction: &Instruction,
+    ) -> Result<Option<Trap>, AllocError>
+        requires before { IsBefore (program_of code.now) (N.nodes store.old) self.old (instruction_of (types_of (program_in code.now)) instruction.now) }
+        requires limit { HasLimit (program_of code.now) (N.lent store.old) }
+        requires rare { is_rare (instruction_of (types_of (program_in code.now)) instruction.now) ≡ true }
+        requires room { self.old.place + 1 < 2 ^ 64 }
+        requires length { length (code_at (generated (program_of code.now)) self.old.function.0).code < 2 ^ 64 }
+        ensures does { Does (program_of code.now) (instruction_of (types_of (program_in code.now)) instruction.now) (N.nodes store.old) (N.nodes store.new) self.old self.new result }
+        ensures in_hand { works_in_hand (instruction_of (types_of (program_in code.now)) instruction.now) ≡ true → N.nodes store.new ≡ N.nodes store.old }
+        ensures keeps { Keeps (N.nodes store.old) (N.nodes store.new) }
+        ensures lent { N.lent store.new ≡ N.lent store.old }
+    {
+        match instruction {
+            Instruction::PushText(text) => self.push_text(code, store, text),
             Instruction::TextCompare(op) => self.compare_texts(code, store, *op),
             Instruction::Cat => self.concat(code, store),
             Instruction::Len => self.length(code, store),
-            Instruction::Not => self.not(code, store),
             Instruction::VecFill(count) => self.fill(code, store, *count),
             Instruction::VecGet => self.element(code, store),
             Instruction::VecPut => self.replace(code, store),
-            Instruction::Call(_) => unreachable!(),
-            Instruction::Return => unreachable!(),
-            Instruction::Auth(_) => unreachable!(),
-            Instruction::Unauth(_) => unreachable!(),
+            _ => unreachable!(),
         }
     }
 }

@@ -22,6 +22,7 @@ impl Frame {
     ghost use Rattle.mode_vm.specs.Outcomes.{Does, IsBefore};
 
     /// Pushes the result of an operation on two ints, or traps.
+    #[inline(always)]
     pub(crate) fn arith<N: Nodes>(
         &mut self,
         code: &Code,
@@ -38,6 +39,7 @@ impl Frame {
     }
 
     /// Pushes whether a comparison of two ints holds.
+    #[inline(always)]
     pub(crate) fn compare<N: Nodes>(
         &mut self,
         code: &Code,
@@ -57,6 +59,7 @@ impl Frame {
 }
 
 /// The result of an operation on two ints.
+#[inline(always)]
 fn new_result<N: Nodes>(
     store: &N,
     op: Arith,
@@ -77,6 +80,7 @@ fn new_result<N: Nodes>(
 }
 
 /// The result of an operation on two ints.
+#[inline(always)]
 fn calculated(op: Arith, x: i64, y: i64) -> Result<i64, Trap>
     ensures { (m : Marking) (k : ℕ) (w : StateOf m) → meant.arith_of {C = CauseOf m} op x y k w ≡ calculation_of result k w }
 {
@@ -100,6 +104,7 @@ fn calculated(op: Arith, x: i64, y: i64) -> Result<i64, Trap>
 }
 
 /// Whether a comparison of two ints holds.
+#[inline(always)]
 fn compared(op: Compare, x: i64, y: i64) -> bool
     ensures { result ≡ meant.compare_of op x y }
 {

@@ -21,6 +21,7 @@ ghost use Rattle.mode_vm.specs.Operands.{AllHeld, IsHeld};
 ghost use Rattle.mode_vm.specs.declared.operand.Operand.TheVariants.{At};
 
 /// A node for an operand: that of one which has a node, and else one that is put.
+#[inline(always)]
 pub(crate) fn place<N: Nodes>(store: &mut N, operand: Operand) -> Result<Ref, AllocError>
     ensures stands { (kind : Kind) (types : Table) (t : Ty) (v : Value) → IsHeld kind types (N.nodes store.old) operand t v
         → IfOk result (λ r. StandsFor kind types (N.nodes store.new) r.0 t v) }
@@ -49,6 +50,7 @@ pub(crate) fn node_in(operand: Operand) -> Ref
 }
 
 /// Nodes for some operands.
+#[inline(always)]
 pub(crate) fn place_all<N: Nodes>(
     store: &mut N,
     operands: &[Operand],

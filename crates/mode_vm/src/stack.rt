@@ -8,20 +8,26 @@ use std::alloc::{AllocError, Global};
 use std::marker::Model;
 use value_store::Ref;
 
+/// How many operands there is room for at first, where there is memory: else it is asked for as they are pushed.
+const FIRST_OPERANDS: usize = 64;
+
 /// The locals of all frames, or their operands, the top one last: those of the frames that wait, and from `base` on those of the
 /// running frame. A contract sees the two parts apart.
 #[derive(Drop)]
 pub struct Stack {
+    /// The operands, and behind them room that is written over, so that few pushes ask for memory.
     all: Vec<Operand>,
+    /// How many operands there are.
+    count: usize,
     base: usize,
 }
 
 impl Model for Stack {
     ghost Value = { Stacked };
 
-    ghost view = { λ s. cut_at s.base s.all.items };
+    ghost view = { λ s. cut_at s.base (take s.count s.all.items) };
 
-    ghost invariant = { λ s. s.base ≤ length s.all.items };
+    ghost invariant = { λ s. (s.base ≤ s.count) × (s.count ≤ length s.all.items) };
 }
 
 impl Stack {
@@ -29,8 +35,13 @@ impl Stack {
         ensures below { result.below ≡ [] }
         ensures items { result.items ≡ [] }
     {
+        let all = match Vec::from_elem(alloc, Operand::Unit, FIRST_OPERANDS) {
+            Ok(all) => all,
+            Err(_) => Vec::new(alloc),
+        };
         Stack {
-            all: Vec::new(alloc),
+            all,
+            count: 0,
             base: 0,
         }
     }
@@ -48,25 +59,34 @@ impl Stack {
         requires { count ≤ length self.now.items }
         ensures { result.now ≡ drop (length self.now.items - count) self.now.items }
     {
-        let kept = self.all.len() - count;
-        &self.all[kept..]
+        &self.all[self.count - count..self.count]
     }
 
     /// Pushes an operand of the running frame.
+    #[inline(always)]
     pub(crate) fn push(&mut self, operand: Operand) -> Result<(), AllocError>
         ensures below { OnOk result (self.new.below ≡ self.old.below) }
         ensures items { OnOk result (self.new.items ≡ self.old.items ++ operand ∷ []) }
     {
-        self.all.push(operand)?;
+        if self.count < self.all.len() {
+            self.all[self.count] = operand;
+        } else {
+            self.all.push(operand)?;
+        }
+        self.count += 1;
         Ok(())
     }
 
     /// Pushes some operands of the running frame, the last of them on top.
+    #[inline(always)]
     pub(crate) fn push_all(&mut self, operands: &[Operand]) -> Result<(), AllocError>
         ensures below { OnOk result (self.new.below ≡ self.old.below) }
         ensures items { OnOk result (self.new.items ≡ self.old.items ++ operands.now) }
     {
-        self.all.extend_from_slice(operands)
+        for operand in operands {
+            self.push(*operand)?;
+        }
+        Ok(())
     }
 
     /// Pushes some nodes, the last of them on top.
@@ -86,10 +106,8 @@ impl Stack {
         ensures below { self.new.below ≡ self.old.below }
         ensures items { self.old.items ≡ self.new.items ++ result ∷ [] }
     {
-        match self.all.pop() {
-            Some(operand) => operand,
-            None => unreachable!(),
-        }
+        self.count -= 1;
+        self.all[self.count]
     }
 
     /// Drops as many of the topmost operands of the running frame.
@@ -98,8 +116,7 @@ impl Stack {
         ensures below { self.new.below ≡ self.old.below }
         ensures items { self.new.items ≡ take (length self.old.items - count) self.old.items }
     {
-        let kept = self.all.len() - count;
-        self.all.truncate(kept);
+        self.count -= count;
     }
 
     /// Drops all that the running frame has.
@@ -107,10 +124,11 @@ impl Stack {
         ensures below { self.new.below ≡ self.old.below }
         ensures items { self.new.items ≡ [] }
     {
-        self.all.truncate(self.base);
+        self.count = self.base;
     }
 
     /// Moves as many of the topmost operands of the running frame onto another stack, in their order.
+    #[inline(always)]
     pub(crate) fn move_to(&mut self, count: usize, to: &mut Stack) -> Result<(), AllocError>
         requires { count ≤ length self.old.items }
         ensures below { OnOk result (self.new.below ≡ self.old.below) }
@@ -129,7 +147,7 @@ impl Stack {
         ensures items { self.new.items ≡ [] }
     {
         let base = self.base;
-        self.base = self.all.len();
+        self.base = self.count;
         base
     }
 
@@ -138,7 +156,7 @@ impl Stack {
         requires { base ≤ length self.old.below }
         ensures { self.new ≡ cut_at base self.old.below }
     {
-        self.all.truncate(self.base);
+        self.count = self.base;
         self.base = base;
     }
 }

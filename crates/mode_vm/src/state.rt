@@ -25,6 +25,9 @@ use core_terms::{FunctionId, Instruction, Outcome, Trap};
 use std::alloc::{AllocError, Global};
 use value_store::{Nodes, Ref};
 
+/// How many frames that wait there is room for at first, where there is memory: else it is asked for as calls come.
+const FIRST_WAITING: usize = 32;
+
 /// Where the machine stands: the fuel left, the running frame, whether it has taken its unit of fuel, and the frames that wait
 /// for a value, the innermost last.
 #[derive(Drop)]
@@ -71,11 +74,13 @@ impl State {
             fuel,
             entered: false,
             top,
-            waiting: Vec::new(alloc),
+            waiting: room_for_waiting(alloc),
         })
     }
 
     /// Begins a call of a function on as many operands.
+    // Inlined like `act`, of which they are parts: a result of theirs is matched at once.
+    #[inline(always)]
     fn begin(&mut self, callee: FunctionId, count: usize) -> Result<(), AllocError>
         requires enough { count ≤ length self.old.top.operands.items }
         requires room { self.old.top.place + 1 < 2 ^ 64 }
@@ -88,6 +93,7 @@ impl State {
     }
 
     /// Begins a call of a function on as many operands, in the place of the running one.
+    #[inline(always)]
     fn begin_last(&mut self, callee: FunctionId, count: usize) -> Result<(), AllocError>
         requires enough { count ≤ length self.old.top.operands.items }
         ensures { IfOk result (λ done. (args : List Operand) × (kept : List Operand) × (length args ≡ count) × BeginsLast self.old callee.0 args kept self.new) }
@@ -98,6 +104,7 @@ impl State {
     }
 
     /// Calls a function on the topmost operands. Where the caller would only give its value back, it doesn't wait for it.
+    #[inline(always)]
     fn call(&mut self, code: &Code, callee: FunctionId) -> Result<Step, AllocError>
         requires before { (m : Marking) × (z : Ty) × (nodes : List Node) × (cs : ValueStack) × Represents m (program_of code.now) z nodes self.old cs × IsNext (instruction.Call callee.0) cs.top }
         requires entered { self.old.entered ≡ true }
@@ -116,6 +123,7 @@ impl State {
     }
 
     /// Gives the top operand back to the function that waits for it, or ends.
+    #[inline(always)]
     fn give_back<N: Nodes>(&mut self, code: &Code, store: &mut N) -> Result<Step, AllocError>
         requires before { (m : Marking) × (z : Ty) × (cs : ValueStack) × Represents m (program_of code.now) z (N.nodes store.old) self.old cs × IsNext instruction.Return cs.top }
         requires entered { self.old.entered ≡ true }
@@ -145,7 +153,10 @@ impl State {
         requires { self.now.fuel ≤ start }
         ensures { MatchBool result (Spent units start self.now) ((self.now.entered ≡ false) → 0 < self.now.fuel → start ≢ self.now.fuel + units) }
     {
-        !self.entered && self.fuel > 0 && start - self.fuel == units
+        if self.entered {
+            return false;
+        }
+        self.fuel > 0 && start - self.fuel == units
     }
 
     /// Takes the running frame's unit of fuel, or ends where none is left.
@@ -221,14 +232,25 @@ impl State {
         ensures lent { N.lent store.new ≡ N.lent store.old }
     {
         match instruction {
-            Instruction::Call(callee) => self.call(code, *callee),
-            Instruction::Return => self.give_back(code, store),
+            // Each of these calls gets a result of its own: LLVM keeps none in registers whose address a call takes, and then each other
+            // instruction would pay for it.
+            Instruction::Call(callee) => Ok(self.call(code, *callee)?),
+            Instruction::Return => Ok(self.give_back(code, store)?),
             _ => {
                 let trapped = self.top.act(code, store, instruction)?;
                 Ok(step_of(trapped))
             }
         }
     }
+}
+
+/// No frames, with room for some where there is memory.
+fn room_for_waiting(alloc: Global) -> Vec<Waiting>
+    ensures { result.items ≡ [] }
+{
+    let mut waiting = Vec::new(alloc);
+    let _ = waiting.reserve(FIRST_WAITING);
+    waiting
 }
 
 /// What an instruction comes to.

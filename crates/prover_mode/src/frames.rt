@@ -46,6 +46,7 @@ impl FrameWriter {
 
     /// Writes a piece: where it is kept, it is named, and else it is written whole and kept from then on. It gives back what memory of
     /// pieces is out of use then.
+    #[inline(always)]
     pub(crate) fn put(&mut self, piece: Vec<u8>) -> Result<Option<Vec<u8>>, AllocError>
         requires short { length piece.items < 2 ^ 32 }
         requires few { suc (self.old.fresh + self.old.again) < 2 ^ 64 }

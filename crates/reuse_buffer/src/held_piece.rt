@@ -28,6 +28,7 @@ pub(crate) fn bytes_of(held: Option<HeldPiece>) -> Option<Vec<u8>> {
 }
 
 /// The bucket of a piece, of `count`.
+#[inline(always)]
 #[tactic(auto, unfolding(crate::specs::Index::bucket_of))]
 pub(crate) fn bucket_of(bytes: &[u8], count: u16) -> u16
     requires { 0 < count }

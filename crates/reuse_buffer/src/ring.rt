@@ -97,6 +97,7 @@ impl Ring {
 
     /// Takes a piece in, as the last one. Where the ring is full, the oldest one goes, and its memory is given back; where it holds none,
     /// that of the piece itself.
+    #[inline(always)]
     pub fn push(&mut self, piece: Vec<u8>) -> Option<Vec<u8>>
         ensures last { (recent : List (List ℕ)) → self.old ≡ kept self.old.size recent → self.new ≡ kept self.old.size (piece.items ∷ recent) }
         ensures pieces { self.new ≡ kept self.old.size (piece.items ∷ self.old.pieces) }

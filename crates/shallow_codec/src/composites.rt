@@ -95,6 +95,7 @@ fn put_parts<'a, N: Nodes>(
 }
 
 /// The constructor with this tag, of fields that were read one after another.
+#[inline(always)]
 pub(crate) fn put_fields<'a, N: Nodes>(
     store: &mut N,
     named: NamedId,

@@ -165,6 +165,7 @@ impl Reader<'_> {
 
     /// Values of these types, one after another.
     #[cycle(values)]
+    #[inline(always)]
     fn fields<'a, N: Nodes>(
         &self,
         store: &mut N,

@@ -47,6 +47,7 @@ pub fn spell<N: Nodes>(
 /// # Errors
 ///
 /// `AllocError` where there is no memory for the spelling.
+#[inline(always)]
 pub fn spell_into<N: Nodes>(
     types: &Types,
     store: &N,

@@ -25,6 +25,7 @@ const DEPTH_LIMIT: u32 = 512;
 ///
 /// `Bad` where the bytes spell nothing at the type, with the offset of the first fault. `NoMemory` where there is no memory for the
 /// nodes.
+#[inline(always)]
 pub fn unspell<N: Nodes>(
     alloc: Global,
     types: &Types,

@@ -99,6 +99,7 @@ pub trait Nodes {
     }
 
     /// Puts an int.
+    #[inline(always)]
     final fn put_int(&mut self, value: i64) -> Result<Ref, AllocError>
         ensures put { Puts (nodes self.old) (IntNode value) result (nodes self.new) }
         ensures stands { IfOk result (λ r. (kind : Kind) (types : Table) → StandsFor kind types (nodes self.new) r.0 IntTy (IntV value)) }
@@ -121,6 +122,7 @@ pub trait Nodes {
     }
 
     /// Puts a pair of two values that stand here. The pair is within the limits.
+    #[inline(always)]
     final fn put_pair(&mut self, first: Ref, second: Ref) -> Result<Ref, AllocError>
         requires first { first.0 < length (nodes self.old) }
         requires second { second.0 < length (nodes self.old) }
@@ -140,6 +142,7 @@ pub trait Nodes {
 
     /// Puts a value of a named type: the constructor with this tag, with values that stand here as its fields. It is within the
     /// limits.
+    #[inline(always)]
     final fn put_constructor(
         &mut self,
         named: NamedId,
@@ -180,6 +183,7 @@ pub trait Nodes {
     }
 
     /// Puts an authenticated value, by what is held of it. A value that is referred to stands here.
+    #[inline(always)]
     final fn put_auth(&mut self, held: Held) -> Result<Ref, AllocError>
         requires inner { refers_below (length (nodes self.old)) (AuthNode (held_of held)) ≡ true }
         ensures put { Puts (nodes self.old) (AuthNode (held_of held)) result (nodes self.new) }
@@ -194,6 +198,7 @@ pub trait Nodes {
     }
 
     /// The node with this number. Takes no memory.
+    #[inline(always)]
     final fn view(&self, r: Ref) -> View<'_>
         requires { r.0 < length (nodes self.now) }
         ensures form { form_at (nodes self.now) r.0 ≡ Some (form_shown result) }
@@ -256,6 +261,7 @@ pub trait Nodes {
 }
 
 /// The sum of the sizes of some nodes.
+#[inline(always)]
 fn total_size<N: Nodes>(store: &N, refs: &[Ref]) -> u32
     requires fits { total_size (N.nodes store.now) (numbers_of refs.now) ≤ greatest_limit }
     requires refs { list_all (λ r. nat_lt r (length (N.nodes store.now))) (numbers_of refs.now) ≡ true }
@@ -269,6 +275,7 @@ fn total_size<N: Nodes>(store: &N, refs: &[Ref]) -> u32
 }
 
 /// The greatest depth of some nodes, and 0 of none.
+#[inline(always)]
 fn greatest_depth<N: Nodes>(store: &N, refs: &[Ref]) -> u32
     requires { list_all (λ r. nat_lt r (length (N.nodes store.now))) (numbers_of refs.now) ≡ true }
     ensures { result ≡ greatest_depth (N.nodes store.now) (numbers_of refs.now) }

@@ -11,6 +11,15 @@ use crate::view::View;
 use core_terms::{Digest, NamedId, Tag};
 use std::alloc::{AllocError, Global};
 
+/// How many nodes there is room for at first.
+const FIRST_NODES: usize = 128;
+
+/// How many of their parts.
+const FIRST_PARTS: usize = 128;
+
+/// How many of their digests.
+const FIRST_DIGESTS: usize = 32;
+
 /// Nodes, with the pools that hold their parts and digests. Each node keeps where the pools end behind it.
 #[derive(Drop)]
 pub struct Packed {
@@ -25,14 +34,20 @@ impl Packed {
     ghost use Rattle.value_store.specs.Packing.{packed_nodes};
     ghost use Rattle.value_store.specs.Views.{form_shown};
 
-    /// No nodes. Takes no memory.
+    /// No nodes, with room for some where there is memory: else it is asked for as they are put.
     pub(crate) fn new(alloc: Global) -> Packed
         ensures { packed_nodes result ≡ [] }
     {
+        let mut nodes = Vec::new(alloc);
+        let mut parts = Vec::new(alloc);
+        let mut digests = Vec::new(alloc);
+        let _ = nodes.reserve(FIRST_NODES);
+        let _ = parts.reserve(FIRST_PARTS);
+        let _ = digests.reserve(FIRST_DIGESTS);
         Packed {
-            nodes: Vec::new(alloc),
-            parts: Vec::new(alloc),
-            digests: Vec::new(alloc),
+            nodes,
+            parts,
+            digests,
         }
     }
 
@@ -45,6 +60,7 @@ impl Packed {
 
     /// Adds a node of the form that is shown, which has this size and depth. Where memory is wanting, and where a number in it doesn't
     /// fit 32 bits, which is refused as if memory were wanting, no node is changed.
+    // The form is known where a node is put: inlined, no other form is asked for.
     #[inline(always)]
     pub(crate) fn put(
         &mut self,
@@ -79,6 +95,7 @@ impl Packed {
         self.add(Form::TextNode(size, text))
     }
 
+    #[inline(always)]
     fn add_pair(&mut self, first: Ref, second: Ref, size: u32, depth: u16) -> Result<(), AllocError>
         ensures { Adds (packed_nodes self.old) (with_parts (PairNode first.0 second.0) size depth) result (packed_nodes self.new) }
     {
@@ -92,6 +109,7 @@ impl Packed {
         })
     }
 
+    #[inline(always)]
     fn add_constructor(
         &mut self,
         named: NamedId,
@@ -120,6 +138,7 @@ impl Packed {
         self.add(Form::VecNode { depth, size, start })
     }
 
+    #[inline(always)]
     fn add_held(&mut self, held: Held) -> Result<(), AllocError>
         ensures { Adds (packed_nodes self.old) (with_parts (AuthNode (held_of held)) 32 1) result (packed_nodes self.new) }
     {
@@ -130,6 +149,7 @@ impl Packed {
         }
     }
 
+    #[inline(always)]
     fn add_both(&mut self, digest: Digest, inner: Ref) -> Result<(), AllocError>
         ensures { Adds (packed_nodes self.old) (with_parts (AuthNode (BothHeld digest.0 inner.0)) 32 1) result (packed_nodes self.new) }
     {
@@ -137,6 +157,7 @@ impl Packed {
         self.add(Form::BothNode(number, inner))
     }
 
+    #[inline(always)]
     fn add_only(&mut self, digest: Digest) -> Result<(), AllocError>
         ensures { Adds (packed_nodes self.old) (with_parts (AuthNode (OnlyHeld digest.0)) 32 1) result (packed_nodes self.new) }
     {
@@ -145,6 +166,7 @@ impl Packed {
     }
 
     /// Adds a node of this form, whose parts and digest end the pools.
+    #[inline(always)]
     fn add(&mut self, form: Form) -> Result<(), AllocError>
         requires lies { LiesBefore (length self.old.parts.items) (length self.old.digests.items) form }
         ensures { Adds (packed_nodes self.old) (node_with_end self.old.parts.items self.old.digests.items (length self.old.parts.items) form) result (packed_nodes self.new) }
@@ -158,6 +180,7 @@ impl Packed {
     }
 
     /// Puts parts into the pool, and gives where they begin. No node is changed.
+    #[inline(always)]
     fn keep_parts(&mut self, parts: &[Ref]) -> Result<u32, AllocError>
         ensures nodes { packed_nodes self.new ≡ packed_nodes self.old }
         ensures start { IfOk result (λ start. start ≤ length self.new.parts.items) }
@@ -169,6 +192,7 @@ impl Packed {
     }
 
     /// Puts a digest into the pool, and gives its number there. No node is changed.
+    #[inline(always)]
     fn keep_digest(&mut self, digest: Digest) -> Result<u32, AllocError>
         ensures nodes { packed_nodes self.new ≡ packed_nodes self.old }
         ensures within { IfOk result (λ number. number < length self.new.digests.items) }
@@ -180,6 +204,8 @@ impl Packed {
     }
 
     /// What the node with this number shows. Takes no memory.
+    // Where a node is looked at, what is shown is matched at once: inlined, it isn't made first.
+    #[inline(always)]
     pub(crate) fn view(&self, number: usize) -> View<'_>
         requires { number < length (packed_nodes self.now) }
         ensures { form_at (packed_nodes self.now) number ≡ Some (form_shown result) }
@@ -189,6 +215,7 @@ impl Packed {
     }
 
     /// What is shown of a node of this form, whose parts end there.
+    #[inline(always)]
     fn shown<'a>(&'a self, form: &'a Form, end: u32) -> View<'a>
         requires parts { parts_from form.now ≤ end }
         requires end { end ≤ length self.now.parts.items }
@@ -222,6 +249,7 @@ impl Packed {
     }
 
     /// The parts from one place of the pool to another.
+    #[inline(always)]
     fn between(&self, start: u32, end: u32) -> &[Ref]
         requires order { start ≤ end }
         requires end { end ≤ length self.now.parts.items }
@@ -231,6 +259,7 @@ impl Packed {
     }
 
     /// The digest with this number in the pool.
+    #[inline(always)]
     fn digest_with(&self, number: u32) -> Digest
         requires { number < length self.now.digests.items }
         ensures { digest_in self.now.digests.items number ≡ result.0 }
@@ -313,6 +342,7 @@ impl Form {
 }
 
 /// A number as one of 32 bits. One that doesn't fit is refused as if memory were wanting.
+#[inline(always)]
 pub(crate) fn fitting(number: usize) -> Result<u32, AllocError>
     ensures { IfOk result (λ small. small ≡ number) }
 {

@@ -34,6 +34,7 @@ pub(crate) fn value_again(last: &Option<LastRead>, ty: TyId, piece: &[u8]) -> Op
 }
 
 /// Notes a new piece that was read as the last one, in the memory of the one before it. Where memory is wanting, none is noted.
+#[inline(always)]
 pub(crate) fn note_read(
     last: &mut Option<LastRead>,
     alloc: Global,

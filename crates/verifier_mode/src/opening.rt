@@ -36,6 +36,8 @@ pub struct Asked {
 
 /// Opens a piece, whose digest is `found`, as the one that is asked for at a type. Where it is the last new piece, at the same type,
 /// it isn't read again.
+// Inlined, as is all that is done once for each piece: results of many words are matched at once.
+#[inline(always)]
 pub(crate) fn open_piece<N: Nodes>(
     types: &Types,
     store: &mut N,

@@ -1,17 +1,12 @@
-use Rattle.std.proofs.Common.{◌≡◌, List, ap, ◌∙◌, sym, subst, arith}
-use Rattle.core_terms.specs.Terms.{Program}
-use Rattle.core_terms.specs.Types.{Ty}
+use Rattle.std.proofs.Common.{ap, ◌∙◌, sym, subst, arith}
 use Rattle.core_terms.specs.Programs.{meaning, types_of}
-use Rattle.value_store.specs.Markings.{Marking}
-use Rattle.value_store.specs.Nodes.{Node}
 use Rattle.core_terms.specs.InstructionViews.{instruction_of}
 use Rattle.core_terms.specs.Instructions as instruction
 use Rattle.code_gen.specs.Programs.{program_in}
-use Rattle.core_terms.specs.declared.instruction.Instruction.{Instruction}
-use Rattle.mode_vm.specs.Machines.{Before, ValueFrame}
+use Rattle.mode_vm.specs.Machines.{Before}
 use Rattle.mode_vm.specs.Meanings.{program_of}
-use Rattle.mode_vm.specs.declared.frame.Frame.{Frame}
 use Rattle.mode_vm.proofs.PassedInts.{kept}
+use Rattle.mode_vm.proofs.OwnInstructions.{before}
 use Rattle.mode_vm.proofs.frame.Frame.act.Goals as goal
 
 pub push_int-requires-clause-before : goal.push_int-requires-clause-before
@@ -27,11 +22,6 @@ returns-in-PushInt-clause-does g c m values b =
     let is = ap (instruction_of (types_of p)) c.in-PushInt.is ∙ ap instruction.PushInt (sym (kept c.in-PushInt.value (omega arith))) in
     c.push_int.ensures.does m values (subst (λ i. Before m (meaning p) (g.N.Nodes.nodes c.args.store.now) c.args.self.now i values) is b)
 
--- the frame stands before the instruction that it is
-before : (P : Program) (types : List Ty) (m : Marking) (nodes : List Node) (frame : Frame) (values : ValueFrame) (i j : Instruction) → i ≡ j
-    → Before m P nodes frame (instruction_of types i) values → Before m P nodes frame (instruction_of types j) values
-before P types m nodes frame values i j is b = subst (λ i. Before m P nodes frame (instruction_of types i) values) is b
-
 -- each other instruction does what its function does
 pub returns-in-PushUnit-clause-does : goal.returns-in-PushUnit-clause-does
 returns-in-PushUnit-clause-does g c m values b =
@@ -42,11 +32,6 @@ pub returns-in-PushBool-clause-does : goal.returns-in-PushBool-clause-does
 returns-in-PushBool-clause-does g c m values b =
     let P = program_of c.args.code.now in
     c.push_bool.ensures.does m values (before P (types_of (program_in c.args.code.now)) m (g.N.Nodes.nodes c.args.store.now) c.args.self.now values _ _ c.in-PushBool.is b)
-
-pub returns-in-PushText-clause-does : goal.returns-in-PushText-clause-does
-returns-in-PushText-clause-does g c m values b =
-    let P = program_of c.args.code.now in
-    c.push_text.ensures.does m values (before P (types_of (program_in c.args.code.now)) m (g.N.Nodes.nodes c.args.store.now) c.args.self.now values _ _ c.in-PushText.is b)
 
 pub returns-in-Load-clause-does : goal.returns-in-Load-clause-does
 returns-in-Load-clause-does g c m values b =
@@ -109,37 +94,7 @@ returns-in-Compare-clause-does g c m values b =
     let P = program_of c.args.code.now in
     c.compare.ensures.does m values (before P (types_of (program_in c.args.code.now)) m (g.N.Nodes.nodes c.args.store.now) c.args.self.now values _ _ c.in-Compare.is b)
 
-pub returns-in-TextCompare-clause-does : goal.returns-in-TextCompare-clause-does
-returns-in-TextCompare-clause-does g c m values b =
-    let P = program_of c.args.code.now in
-    c.compare_texts.ensures.does m values (before P (types_of (program_in c.args.code.now)) m (g.N.Nodes.nodes c.args.store.now) c.args.self.now values _ _ c.in-TextCompare.is b)
-
-pub returns-in-Cat-clause-does : goal.returns-in-Cat-clause-does
-returns-in-Cat-clause-does g c m values b =
-    let P = program_of c.args.code.now in
-    c.concat.ensures.does m values (before P (types_of (program_in c.args.code.now)) m (g.N.Nodes.nodes c.args.store.now) c.args.self.now values _ _ c.in-Cat.is b)
-
-pub returns-in-Len-clause-does : goal.returns-in-Len-clause-does
-returns-in-Len-clause-does g c m values b =
-    let P = program_of c.args.code.now in
-    c.length.ensures.does m values (before P (types_of (program_in c.args.code.now)) m (g.N.Nodes.nodes c.args.store.now) c.args.self.now values _ _ c.in-Len.is b)
-
 pub returns-in-Not-clause-does : goal.returns-in-Not-clause-does
 returns-in-Not-clause-does g c m values b =
     let P = program_of c.args.code.now in
     c.not.ensures.does m values (before P (types_of (program_in c.args.code.now)) m (g.N.Nodes.nodes c.args.store.now) c.args.self.now values _ _ c.in-Not.is b)
-
-pub returns-in-VecFill-clause-does : goal.returns-in-VecFill-clause-does
-returns-in-VecFill-clause-does g c m values b =
-    let P = program_of c.args.code.now in
-    c.fill.ensures.does m values (before P (types_of (program_in c.args.code.now)) m (g.N.Nodes.nodes c.args.store.now) c.args.self.now values _ _ c.in-VecFill.is b)
-
-pub returns-in-VecGet-clause-does : goal.returns-in-VecGet-clause-does
-returns-in-VecGet-clause-does g c m values b =
-    let P = program_of c.args.code.now in
-    c.element.ensures.does m values (before P (types_of (program_in c.args.code.now)) m (g.N.Nodes.nodes c.args.store.now) c.args.self.now values _ _ c.in-VecGet.is b)
-
-pub returns-in-VecPut-clause-does : goal.returns-in-VecPut-clause-does
-returns-in-VecPut-clause-does g c m values b =
-    let P = program_of c.args.code.now in
-    c.replace.ensures.does m values (before P (types_of (program_in c.args.code.now)) m (g.N.Nodes.nodes c.args.store.now) c.args.self.now values _ _ c.in-VecPut.is b)

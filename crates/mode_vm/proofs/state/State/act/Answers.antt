@@ -21,9 +21,9 @@ give_back-requires-clause-before g c =
     let b = c.requires.before in
     (b.0, b.1, b.2, b.3, subst (λ i. IsNext (instruction_of (types_of (program_in c.args.code.now)) i) b.2.top) c.in-Return.is b.4)
 
-pub returns-in-Return-clause-leads : goal.returns-in-Return-clause-leads
-returns-in-Return-clause-leads g c m z cs shows next =
-    c.give_back.ensures.leads m z cs shows (subst (λ i. IsNext (instruction_of (types_of (program_in c.args.code.now)) i) cs.top) c.in-Return.is next)
+pub returns-in_ok-give_back-in-Return-clause-leads : goal.returns-in_ok-give_back-in-Return-clause-leads
+returns-in_ok-give_back-in-Return-clause-leads g c m z cs shows next =
+    c.in_ok-give_back-in-Return.ensures.leads m z cs shows (subst (λ i. IsNext (instruction_of (types_of (program_in c.args.code.now)) i) cs.top) c.in-Return.is next)
 
 pub returns-in_ok-trapped-in_default : goal.returns-in_ok-trapped-in_default
 returns-in_ok-trapped-in_default g c = record {
@@ -43,6 +43,6 @@ returns-in_ok-trapped-in_default g c = record {
 pub act-requires-clause-own : goal.act-requires-clause-own
 act-requires-clause-own g c = own (types_of (program_in c.args.code.now)) c.args.instruction.now c.in_default.not-Call c.in_default.not-Return c.requires.plain
 
-pub returns-in-Call-clause-leads : goal.returns-in-Call-clause-leads
-returns-in-Call-clause-leads g c m z cs shows next =
-    c.call.ensures.leads m z (g.N.Nodes.nodes c.args.store.now) cs shows (subst (λ i. IsNext (instruction_of (types_of (program_in c.args.code.now)) i) cs.top) c.in-Call.is next)
+pub returns-in_ok-call-in-Call-clause-leads : goal.returns-in_ok-call-in-Call-clause-leads
+returns-in_ok-call-in-Call-clause-leads g c m z cs shows next =
+    c.in_ok-call-in-Call.ensures.leads m z (g.N.Nodes.nodes c.args.store.now) cs shows (subst (λ i. IsNext (instruction_of (types_of (program_in c.args.code.now)) i) cs.top) c.in-Call.is next)
