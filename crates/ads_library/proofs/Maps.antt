@@ -4,7 +4,7 @@ use Rattle.core_terms.specs.Values.{Value, UnitV, IntV, PairV, NoV, AndV}
 use Rattle.core_terms.specs.Terms.{Program}
 use Rattle.core_terms.specs.Roles.{role_named}
 use Rattle.ideal_meaning.specs.Ideal.{ideal, outcome, Done}
-use Rattle.ideal_meaning.specs.Headline.{call_of}
+use Rattle.ideal_meaning.specs.Headline.{call_values}
 use Rattle.ads_library.specs.Entries.{Entry, IsInt, HasInts, AllHaveInts}
 use Rattle.ads_library.specs.Maps.{argument_of, last_value, distinct_keys, answer, IsAfter, GivesAfter, KeepsMap}
 use Rattle.ads_library.proofs.Stepping.{Leaves}
@@ -23,9 +23,9 @@ module _ (P : Program) (empty_role get_role put_role fuel_of_empty : ℕ) (fuel 
     -- the roles give what the plain functions give
     (empty_runs : Leaves (value_of start) 0 (ideal P empty_role (AndV UnitV NoV) fuel_of_empty))
     (get_runs : (t : Tree) (n : ℕ) → Keeps t n → (key : ℤ) → IsInt key
-    → Leaves (answer (find t key)) 0 (ideal P get_role (call_of (value_of t) (IntV key)) (cost t)))
+    → Leaves (answer (find t key)) 0 (ideal P get_role (call_values (value_of t) (IntV key)) (cost t)))
     (put_runs : (t : Tree) (n : ℕ) → Keeps t n → (e : Entry) → HasInts e
-    → Leaves (PairV (value_of (add t e)) UnitV) 0 (ideal P put_role (call_of (value_of t) (argument_of e)) (cost t)))
+    → Leaves (PairV (value_of (add t e)) UnitV) 0 (ideal P put_role (call_values (value_of t) (argument_of e)) (cost t)))
     -- the plain functions are those of a map
     (starts : Keeps start 0) (nothing : (key : ℤ) → find start key ≡ None)
     (adds : (t : Tree) (n : ℕ) → Keeps t n → (e : Entry) → Keeps (add t e) (if is_some (find t e.key) then n else suc n))
@@ -54,10 +54,10 @@ module _ (P : Program) (empty_role get_role put_role fuel_of_empty : ℕ) (fuel 
       where
         by : IsKept earlier before → IsKept (newest ∷ earlier) state
         by h =
-            let on_tree = subst (λ (v : Value). outcome (ideal P put_role (call_of v (argument_of newest)) k) ≡ Done (PairV state reply)) h.value is in
+            let on_tree = subst (λ (v : Value). outcome (ideal P put_role (call_values v (argument_of newest)) k) ≡ Done (PairV state reply)) h.value is in
             let runs = put_runs h.tree _ h.keeps newest ints.0 in
             let same : PairV state reply ≡ PairV (value_of (add h.tree newest)) UnitV =
-            same_value P put_role (call_of (value_of h.tree) (argument_of newest)) _ 0 (cost h.tree) runs k (PairV state reply) on_tree in
+            same_value P put_role (call_values (value_of h.tree) (argument_of newest)) _ 0 (cost h.tree) runs k (PairV state reply) on_tree in
             let grown = λ (o : Option ℤ). Keeps (add h.tree newest) (if is_some o then distinct_keys earlier else suc (distinct_keys earlier)) in
             record {
               tree = add h.tree newest;
@@ -69,7 +69,7 @@ module _ (P : Program) (empty_role get_role put_role fuel_of_empty : ℕ) (fuel 
 
     -- there is a state after any puts
     put_done : (state : Value) (t : Tree) (n : ℕ) → state ≡ value_of t → Keeps t n → (e : Entry) → HasInts e
-        → outcome (ideal P put_role (call_of state (argument_of e)) (cost t)) ≡ Done (PairV (value_of (add t e)) UnitV)
+        → outcome (ideal P put_role (call_values state (argument_of e)) (cost t)) ≡ Done (PairV (value_of (add t e)) UnitV)
     put_done state t n is keeps e ints = rw is (gives_with P put_role _ _ 0 (cost t) (put_runs t n keeps e ints) (cost t) (omega arith))
 
     reached : (puts : List Entry) → AllHaveInts puts → (state : Value) × IsAfter P empty_role put_role UnitV puts state
@@ -84,7 +84,7 @@ module _ (P : Program) (empty_role get_role put_role fuel_of_empty : ℕ) (fuel 
 
     -- a get and a put on a state that is a tree
     get_on : (puts : List Entry) (state : Value) (t : Tree) (o : Option ℤ) → state ≡ value_of t → Keeps t (distinct_keys puts)
-        → (key : ℤ) → IsInt key → find t key ≡ o → GivesAfter P fuel AreFew puts get_role (call_of state (IntV key)) (answer o)
+        → (key : ℤ) → IsInt key → find t key ≡ o → GivesAfter P fuel AreFew puts get_role (call_values state (IntV key)) (answer o)
     get_on puts state t o is keeps key int found =
         let known = get_runs t (distinct_keys puts) keeps key int in
         rw (is, ← found) (
@@ -93,7 +93,7 @@ module _ (P : Program) (empty_role get_role put_role fuel_of_empty : ℕ) (fuel 
         )
 
     put_on : (puts : List Entry) (state : Value) (t : Tree) → state ≡ value_of t → Keeps t (distinct_keys puts) → (e : Entry) → HasInts e
-        → GivesAfter P fuel AreFew puts put_role (call_of state (argument_of e)) (PairV (value_of (add t e)) UnitV)
+        → GivesAfter P fuel AreFew puts put_role (call_values state (argument_of e)) (PairV (value_of (add t e)) UnitV)
     put_on puts state t is keeps e ints =
         let known = put_runs t (distinct_keys puts) keeps e ints in
         rw is (

@@ -9,7 +9,7 @@ use Rattle.core_terms.specs.Values.{Value, UnitV, IntV, PairV, NoV, AndV}
 use Rattle.core_terms.specs.Terms.{Expression, LetE, function_at}
 use Rattle.ideal_meaning.specs.Run.{run, call}
 use Rattle.ideal_meaning.specs.Ideal.{Opened, ideal_mode, ideal, outcome, Done}
-use Rattle.ideal_meaning.specs.Headline.{call_of}
+use Rattle.ideal_meaning.specs.Headline.{call_values}
 use Rattle.ideal_meaning.specs.Library.{merkle, tree}
 use Rattle.ads_library.specs.Calls.{Computes}
 use Rattle.ads_library.specs.Entries.{Entry, entry}
@@ -126,7 +126,7 @@ make_makes (negsuc d) v = enter merkle make_role (AndV (make_argument (negsuc d)
 
 -- `get` and `put` at a place
 get_at_place : (c : ℕ) (t : PlaceTree) → IsFull c t → c ≤ 30 → (i : ℕ) → i < 2 ^ c
-    → Leaves (answer (Some (value_at t (2 ^ c) i))) 0 (ideal merkle get_role (call_of (counted_value (2 ^ c) t) (IntV (pos i))) (c + 2))
+    → Leaves (answer (Some (value_at t (2 ^ c) i))) 0 (ideal merkle get_role (call_values (counted_value (2 ^ c) t) (IntV (pos i))) (c + 2))
 get_at_place c t full most i within = enter merkle get_role _ _ (suc c) 0 (c + 2) (c + 2) [] (omega arith) (omega arith) (λ n k h j.
     let bound = power_bound c most in
     let deep = full_depth c t full in
@@ -135,7 +135,7 @@ get_at_place c t full most i within = enter merkle get_role _ _ (suc c) 0 (c + 2
 
 put_at_place : (c : ℕ) (t : PlaceTree) → IsFull c t → c ≤ 30 → (i : ℕ) (v : ℤ) → i < 2 ^ c
     → Leaves (PairV (counted_value (2 ^ c) (changed t (2 ^ c) i v)) UnitV) 0
-    (ideal merkle put_role (call_of (counted_value (2 ^ c) t) (argument_of (entry (pos i) v))) (c + 2))
+    (ideal merkle put_role (call_values (counted_value (2 ^ c) t) (argument_of (entry (pos i) v))) (c + 2))
 put_at_place c t full most i v within = enter merkle put_role _ _ (suc c) 0 (c + 2) (c + 2) [] (omega arith) (omega arith) (λ n k h j.
     let bound = power_bound c most in
     let deep = full_depth c t full in
@@ -145,20 +145,20 @@ put_at_place c t full most i v within = enter merkle put_role _ _ (suc c) 0 (c +
 
 -- and outside: behind the last place, or before the first
 get_behind : (c : ℕ) (t : PlaceTree) (i : ℕ) → 2 ^ c ≤ i → Leaves (answer None) 0
-    (ideal merkle get_role (call_of (counted_value (2 ^ c) t) (IntV (pos i))) (c + 2))
+    (ideal merkle get_role (call_values (counted_value (2 ^ c) t) (IntV (pos i))) (c + 2))
 get_behind c t i behind = enter merkle get_role _ _ 0 0 (c + 2) (c + 2) [] (omega arith) (omega arith) (λ n k h j.
     rw (le-ltb i 0 (omega arith), le-leb (2 ^ c) i behind) (refl, omega (arith, h)))
 
-get_before : (c : ℕ) (t : PlaceTree) (i : ℕ) → Leaves (answer None) 0 (ideal merkle get_role (call_of (counted_value (2 ^ c) t) (IntV (negsuc i))) (c + 2))
+get_before : (c : ℕ) (t : PlaceTree) (i : ℕ) → Leaves (answer None) 0 (ideal merkle get_role (call_values (counted_value (2 ^ c) t) (IntV (negsuc i))) (c + 2))
 get_before c t i = enter merkle get_role _ _ 0 0 (c + 2) (c + 2) [] (omega arith) (omega arith) (λ n k h j. (refl, omega (arith, h)))
 
 put_behind : (c : ℕ) (t : PlaceTree) (i : ℕ) (v : ℤ) → 2 ^ c ≤ i
-    → Leaves (PairV (counted_value (2 ^ c) t) UnitV) 0 (ideal merkle put_role (call_of (counted_value (2 ^ c) t) (argument_of (entry (pos i) v))) (c + 2))
+    → Leaves (PairV (counted_value (2 ^ c) t) UnitV) 0 (ideal merkle put_role (call_values (counted_value (2 ^ c) t) (argument_of (entry (pos i) v))) (c + 2))
 put_behind c t i v behind = enter merkle put_role _ _ 0 0 (c + 2) (c + 2) [] (omega arith) (omega arith) (λ n k h j.
     rw (le-ltb i 0 (omega arith), le-leb (2 ^ c) i behind) (refl, omega (arith, h)))
 
 put_before : (c : ℕ) (t : PlaceTree) (i : ℕ) (v : ℤ)
-    → Leaves (PairV (counted_value (2 ^ c) t) UnitV) 0 (ideal merkle put_role (call_of (counted_value (2 ^ c) t) (argument_of (entry (negsuc i) v))) (c + 2))
+    → Leaves (PairV (counted_value (2 ^ c) t) UnitV) 0 (ideal merkle put_role (call_values (counted_value (2 ^ c) t) (argument_of (entry (negsuc i) v))) (c + 2))
 put_before c t i v = enter merkle put_role _ _ 0 0 (c + 2) (c + 2) [] (omega arith) (omega arith) (λ n k h j. (refl, omega (arith, h)))
 
 pub merkle_roles : MerkleRoles
@@ -221,13 +221,13 @@ merkle_is_list = record { filled = filled_is; size = size_is; value = value_is; 
 
 -- a get finds the element, and none outside
 get_gives : (c : ℕ) (t : PlaceTree) → IsFull c t → c ≤ 30 → (z : ℤ)
-    → Leaves (answer (element (elements t) z)) 0 (ideal merkle get_role (call_of (counted_value (2 ^ c) t) (IntV z)) (c + 2))
+    → Leaves (answer (element (elements t) z)) 0 (ideal merkle get_role (call_values (counted_value (2 ^ c) t) (IntV z)) (c + 2))
 get_gives c t full most (pos i) = by_test (nat_lt i (2 ^ c))
     (λ f. let within = ltb-true i (2 ^ c) f in
-    subst (λ (o : Option ℤ). Leaves (answer o) 0 (ideal merkle get_role (call_of (counted_value (2 ^ c) t) (IntV (pos i))) (c + 2)))
+    subst (λ (o : Option ℤ). Leaves (answer o) 0 (ideal merkle get_role (call_values (counted_value (2 ^ c) t) (IntV (pos i))) (c + 2)))
     (sym (value_is c t full i within)) (get_at_place c t full most i within))
     (λ f. let behind = ltb-false i (2 ^ c) f in
-    subst (λ (o : Option ℤ). Leaves (answer o) 0 (ideal merkle get_role (call_of (counted_value (2 ^ c) t) (IntV (pos i))) (c + 2)))
+    subst (λ (o : Option ℤ). Leaves (answer o) 0 (ideal merkle get_role (call_values (counted_value (2 ^ c) t) (IntV (pos i))) (c + 2)))
     (sym (slice_get_past (elements t) i (omega (arith, size_is c t full, behind)))) (get_behind c t i behind))
 get_gives c t full most (negsuc i) = get_before c t i
 
@@ -237,7 +237,7 @@ record IsPut (c : ℕ) (t : PlaceTree) (key value : ℤ) : Type 0 where
   full : IsFull c tree
   list : elements tree ≡ with_element (elements t) key value
   same : element (elements t) key ≡ None → tree ≡ t
-  runs : Leaves (PairV (counted_value (2 ^ c) tree) UnitV) 0 (ideal merkle put_role (call_of (counted_value (2 ^ c) t) (argument_of (entry key value))) (c + 2))
+  runs : Leaves (PairV (counted_value (2 ^ c) tree) UnitV) 0 (ideal merkle put_role (call_values (counted_value (2 ^ c) t) (argument_of (entry key value))) (c + 2))
 
 puts_into : (c : ℕ) (t : PlaceTree) → IsFull c t → c ≤ 30 → (key value : ℤ) → IsPut c t key value
 puts_into c t full most (pos i) v = by_test (nat_lt i (2 ^ c))
@@ -285,9 +285,9 @@ module _ (d v : ℤ) where
       by : IsPlaced earlier before → IsPlaced (newest ∷ earlier) state
       by h =
           let p = puts_into (exponent d) h.tree h.full (exponent_most d) newest.key newest.value in
-          let on_tree = subst (λ (u : Value). outcome (ideal merkle put_role (call_of u (argument_of newest)) k) ≡ Done (PairV state reply)) h.value is in
+          let on_tree = subst (λ (u : Value). outcome (ideal merkle put_role (call_values u (argument_of newest)) k) ≡ Done (PairV state reply)) h.value is in
           let same : PairV state reply ≡ PairV (counted_value (2 ^ exponent d) p.tree) UnitV =
-          same_value merkle put_role (call_of (counted_value (2 ^ exponent d) h.tree) (argument_of newest)) _ 0 (exponent d + 2)
+          same_value merkle put_role (call_values (counted_value (2 ^ exponent d) h.tree) (argument_of newest)) _ 0 (exponent d + 2)
           p.runs k (PairV state reply) on_tree in
           record {
             tree = p.tree;
@@ -297,13 +297,13 @@ module _ (d v : ℤ) where
           }
 
   get_on : (state : Value) (t : PlaceTree) (xs : List ℤ) → state ≡ counted_value (2 ^ exponent d) t → IsFull (exponent d) t → elements t ≡ xs
-      → (i : ℤ) → Computes merkle get_role (call_of state (IntV i)) (answer (element xs i)) (exponent d + 2)
+      → (i : ℤ) → Computes merkle get_role (call_values state (IntV i)) (answer (element xs i)) (exponent d + 2)
   get_on state t xs is full list i =
       rw (is, ← list) (computes merkle get_role _ _ 0 (exponent d + 2) (get_gives (exponent d) t full (exponent_most d) i))
 
   put_on : (state : Value) (t : PlaceTree) (xs : List ℤ) → state ≡ counted_value (2 ^ exponent d) t → IsFull (exponent d) t → elements t ≡ xs
       → (e : Entry) → (next : Value) × (element xs e.key ≡ None → next ≡ state)
-      × Computes merkle put_role (call_of state (argument_of e)) (PairV next UnitV) (exponent d + 2)
+      × Computes merkle put_role (call_values state (argument_of e)) (PairV next UnitV) (exponent d + 2)
   put_on state t xs is full list e =
       let p = puts_into (exponent d) t full (exponent_most d) e.key e.value in (
         counted_value (2 ^ exponent d) p.tree,
@@ -313,7 +313,7 @@ module _ (d v : ℤ) where
 
   -- there is a state after any puts
   put_done : (state : Value) (t : PlaceTree) → state ≡ counted_value (2 ^ exponent d) t → IsFull (exponent d) t → (e : Entry)
-      → (next : Value) × (outcome (ideal merkle put_role (call_of state (argument_of e)) (exponent d + 2)) ≡ Done (PairV next UnitV))
+      → (next : Value) × (outcome (ideal merkle put_role (call_values state (argument_of e)) (exponent d + 2)) ≡ Done (PairV next UnitV))
   put_done state t is full e =
       let p = put_on state t (elements t) is full refl e in (p.0, p.2.1 (exponent d + 2) (omega arith))
 

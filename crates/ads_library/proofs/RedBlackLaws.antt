@@ -1,7 +1,7 @@
 -- The laws of `redblack`: its roles give what the plain functions give, and these are those of a map.
 use Rattle.std.proofs.Common.{◌≡◌, ℕ, suc, ◌+◌, ◌*◌, ◌^◌, ◌≤◌, ◌<◌, length, is_some, if◌then◌else◌, refl, ap, sym, ◌∙◌, arith}
 use Rattle.core_terms.specs.Values.{UnitV, IntV, PairV, NoV, AndV}
-use Rattle.ideal_meaning.specs.Headline.{call_of}
+use Rattle.ideal_meaning.specs.Headline.{call_values}
 use Rattle.ads_library.specs.Entries.{Entry}
 use Rattle.ads_library.specs.Maps.{argument_of, answer, IsMapOf}
 use Rattle.ads_library.specs.RedBlackTree.{Tree, Leaf, find, insert, entries, height, IsRedBlack, tree_value, empty_role, get_role, put_role, RedBlackRoles, RedBlackKeepsMap}
@@ -15,10 +15,10 @@ pub red_black_roles : RedBlackRoles
 red_black_roles = record {
   empty = computes redblack empty_role (AndV UnitV NoV) (tree_value Leaf) 0 1 (refl, omega arith);
   get = λ t key.
-      computes redblack get_role (call_of (tree_value t) (IntV key)) (answer (find t key)) 0 (height t + 2)
+      computes redblack get_role (call_values (tree_value t) (IntV key)) (answer (find t key)) 0 (height t + 2)
       (get_runs t key 0 (height t + 2) (omega arith));
   put = λ t e.
-      computes redblack put_role (call_of (tree_value t) (argument_of e)) (PairV (tree_value (insert t e.key e.value)) UnitV) 0 (2 * height t + 3)
+      computes redblack put_role (call_values (tree_value t) (argument_of e)) (PairV (tree_value (insert t e.key e.value)) UnitV) 0 (2 * height t + 3)
       (put_runs t e.key e.value 0 (2 * height t + 3) (omega arith));
 }
 

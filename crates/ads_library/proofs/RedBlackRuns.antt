@@ -3,7 +3,7 @@ use Rattle.std.proofs.Common.{ℕ, suc, ◌+◌, ◌*◌, ◌≤◌, List, [], �
 use Rattle.core_terms.specs.Values.{Value, UnitV, IntV, PairV, ConV, NoV, AndV}
 use Rattle.ideal_meaning.specs.Run.{call}
 use Rattle.ideal_meaning.specs.Ideal.{Opened, ideal_mode, ideal}
-use Rattle.ideal_meaning.specs.Headline.{call_of}
+use Rattle.ideal_meaning.specs.Headline.{call_values}
 use Rattle.ideal_meaning.specs.Library.{tree}
 use Rattle.ads_library.specs.Maps.{answer}
 use Rattle.ads_library.specs.RedBlackTree.{Tree, Leaf, Red, Black, Grown, Settled, Rising, Clash, find, red_left, red_right, black_left, black_right, ins, root, insert, height, tree_value, get_role, put_role}
@@ -93,11 +93,11 @@ ins_law (Black a w l r) key value m n k s h j = enter redblack 5 _ _ (2 * height
 
 -- the roles
 pub get_runs : (t : Tree) (key : ℤ) (m k : ℕ) → height t + 2 + m ≤ k
-    → Leaves (answer (find t key)) m (ideal redblack get_role (call_of (tree_value t) (IntV key)) k)
+    → Leaves (answer (find t key)) m (ideal redblack get_role (call_values (tree_value t) (IntV key)) k)
 get_runs t key m k h = enter redblack 8 _ _ (suc (height t)) m k k [] (omega (arith, h)) (omega (arith, h)) (λ n k h j. find_law t key m n k _ h j)
 
 pub put_runs : (t : Tree) (key value : ℤ) (m k : ℕ) → 2 * height t + 3 + m ≤ k
-    → Leaves (PairV (tree_value (insert t key value)) UnitV) m (ideal redblack put_role (call_of (tree_value t) (PairV (IntV key) (IntV value))) k)
+    → Leaves (PairV (tree_value (insert t key value)) UnitV) m (ideal redblack put_role (call_values (tree_value t) (PairV (IntV key) (IntV value))) k)
 put_runs t key value m k h = enter redblack 9 _ _ (2 * height t + 2) m k k [] (omega (arith, h)) (omega (arith, h)) (λ n k h j.
     let (i, y, g, b) = gives _ _ _ (ins_law t key value (1 + m) n k [] (omega (arith, h)) (omega (arith, j))) in
     let (i', y', g', b') = gives _ _ _ (root_law (ins t key value) m n i y b (omega (arith, j))) in

@@ -4,7 +4,7 @@ use Rattle.std.proofs.lemmas.Bool.Decides.{Decides-int_eq}
 use Rattle.core_terms.specs.Values.{UnitV, IntV, PairV, NoV, AndV}
 use Rattle.ideal_meaning.specs.Run.{call}
 use Rattle.ideal_meaning.specs.Ideal.{Opened, ideal_mode, ideal}
-use Rattle.ideal_meaning.specs.Headline.{call_of}
+use Rattle.ideal_meaning.specs.Headline.{call_values}
 use Rattle.ideal_meaning.specs.Library.{bst, tree}
 use Rattle.ads_library.specs.Entries.{Entry, entry, lookup, Ascending}
 use Rattle.ads_library.specs.Maps.{answer, argument_of, IsMapOf, AnyNumber}
@@ -38,13 +38,13 @@ ins_inserts (Node a v l r) key value m n k s h j = enter bst 1 _ _ (height (Node
     (λ f. let (i, y, g, b) = gives _ _ _ (ins_inserts r key value m n k z (omega (arith, h)) (omega (arith, j))) in rw (f, g) (refl, b)))))
 
 -- the roles, with two calls more than the tree is high
-get_finds : (t : Tree) (key : ℤ) → Leaves (answer (find t key)) 0 (ideal bst get_role (call_of (tree_value t) (IntV key)) (height t + 2))
+get_finds : (t : Tree) (key : ℤ) → Leaves (answer (find t key)) 0 (ideal bst get_role (call_values (tree_value t) (IntV key)) (height t + 2))
 get_finds t key =
     enter bst get_role _ _ (suc (height t)) 0 (height t + 2) (height t + 2) [] (omega arith) (omega arith)
     (λ n k h j. look_finds t key 0 n k _ (omega (arith, h)) (omega (arith, j)))
 
 put_inserts : (t : Tree) (e : Entry) → Leaves (PairV (tree_value (insert t e.key e.value)) UnitV) 0
-    (ideal bst put_role (call_of (tree_value t) (argument_of e)) (height t + 2))
+    (ideal bst put_role (call_values (tree_value t) (argument_of e)) (height t + 2))
 put_inserts t e =
     enter bst put_role _ _ (suc (height t)) 0 (height t + 2) (height t + 2) [] (omega arith) (omega arith) (λ n k h j.
     let (i, y, g, b) = gives _ _ _ (ins_inserts t e.key e.value 0 n k [] (omega (arith, h)) (omega (arith, j))) in rw g (refl, b))

@@ -1,7 +1,7 @@
 -- The laws of `skiplist`: its roles give what the plain functions give, and these are those of a map.
 use Rattle.std.proofs.Common.{◌≡◌, ℕ, suc, ◌+◌, ◌*◌, ◌≤◌, length, is_some, if◌then◌else◌, refl, ap, sym, ◌∙◌, arith}
 use Rattle.core_terms.specs.Values.{UnitV, IntV, PairV, NoV, AndV}
-use Rattle.ideal_meaning.specs.Headline.{call_of}
+use Rattle.ideal_meaning.specs.Headline.{call_values}
 use Rattle.ads_library.specs.Entries.{Entry}
 use Rattle.ads_library.specs.Maps.{argument_of, answer, IsMapOf, AnyNumber}
 use Rattle.ads_library.specs.SkipList.{Lane, bare, find, insert, entries, reach, IsSkipList, lane_value, empty_role, get_role, put_role, SkipListRoles, SkipListKeepsMap}
@@ -15,10 +15,10 @@ pub skip_list_roles : SkipListRoles
 skip_list_roles = record {
   empty = computes skiplist empty_role (AndV UnitV NoV) (lane_value (bare 17)) 0 19 bare_runs;
   get = λ t key.
-      computes skiplist get_role (call_of (lane_value t) (IntV key)) (answer (find t key)) 0 (reach t + 2)
+      computes skiplist get_role (call_values (lane_value t) (IntV key)) (answer (find t key)) 0 (reach t + 2)
       (get_runs t key 0 (reach t + 2) (omega arith));
   put = λ t e int.
-      computes skiplist put_role (call_of (lane_value t) (argument_of e)) (PairV (lane_value (insert t e.key e.value)) UnitV) 0 (2 * reach t + 21)
+      computes skiplist put_role (call_values (lane_value t) (argument_of e)) (PairV (lane_value (insert t e.key e.value)) UnitV) 0 (2 * reach t + 21)
       (put_runs t e.key e.value 0 (2 * reach t + 21) int (omega arith));
 }
 

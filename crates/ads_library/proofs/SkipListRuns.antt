@@ -5,7 +5,7 @@ use Rattle.std.proofs.lemmas.Bool.Decides.{same_from_decides, Decides-like, Deci
 use Rattle.core_terms.specs.Values.{Value, UnitV, IntV, PairV, ConV, NoV, AndV, int_fits}
 use Rattle.ideal_meaning.specs.Run.{call}
 use Rattle.ideal_meaning.specs.Ideal.{Opened, ideal_mode, ideal}
-use Rattle.ideal_meaning.specs.Headline.{call_of}
+use Rattle.ideal_meaning.specs.Headline.{call_values}
 use Rattle.ads_library.specs.Maps.{answer}
 use Rattle.ads_library.specs.SkipList.{Lane, Floor, Last, Step, bare, find, low, halvings, level, part_before, part_behind, place, ins, insert, reach, lane_value, empty_role, get_role, put_role}
 use Rattle.ads_library.specs.SkipListProgram.{skiplist, lane}
@@ -164,11 +164,11 @@ ins_law (Step d a w r) (suc x) key v m n k s top h j = enter skiplist 11 _ _ (2 
 
 -- the roles
 pub get_runs : (t : Lane) (key : ℤ) (m k : ℕ) → reach t + 2 + m ≤ k
-    → Leaves (answer (find t key)) m (ideal skiplist get_role (call_of (lane_value t) (IntV key)) k)
+    → Leaves (answer (find t key)) m (ideal skiplist get_role (call_values (lane_value t) (IntV key)) k)
 get_runs t key m k h = enter skiplist 13 _ _ (suc (reach t)) m k k [] (omega (arith, h)) (omega (arith, h)) (λ n k h j. find_law t key m n k _ h j)
 
 pub put_runs : (t : Lane) (key value : ℤ) (m k : ℕ) → int_fits key ≡ true → 2 * reach t + 21 + m ≤ k
-    → Leaves (PairV (lane_value (insert t key value)) UnitV) m (ideal skiplist put_role (call_of (lane_value t) (PairV (IntV key) (IntV value))) k)
+    → Leaves (PairV (lane_value (insert t key value)) UnitV) m (ideal skiplist put_role (call_values (lane_value t) (PairV (IntV key) (IntV value))) k)
 put_runs t key value m k fits h = enter skiplist 14 _ _ (2 * reach t + 20) m k k [] (omega (arith, h)) (omega (arith, h)) (λ n k h j.
     let (i, y, g, b) = gives _ _ _ (low_law key (2 * reach t + 19 + m) n k [] fits (omega (arith, h)) (omega (arith, j))) in
     let (i', y', g', b') = gives _ _ _ (level_law 16 (low key) 1 (level key) (2 * reach t + 2 + m) n i y refl (low_bound key) (omega arith)

@@ -2,7 +2,7 @@
 use Rattle.std.proofs.Common.{◌≡◌, ℕ, zero, suc, ◌^◌, ◌≤◌, ◌<◌, Bool, true, false, ℤ, pos, Option, Some, is_some, if◌then◌else◌, refl, ap, ◌∙◌, arith, lt-ltb}
 use Rattle.core_terms.specs.Values.{Value, UnitV, IntV, int_fits}
 use Rattle.ideal_meaning.specs.Ideal.{Done, ideal, outcome}
-use Rattle.ideal_meaning.specs.Headline.{call_of}
+use Rattle.ideal_meaning.specs.Headline.{call_values}
 use Rattle.ads_library.specs.Entries.{AllHaveInts}
 use Rattle.ads_library.specs.Maps.{IsAfter, distinct_keys, last_value, answer}
 use Rattle.ads_library.specs.RedBlackTree.{empty_role, get_role, put_role}
@@ -26,7 +26,7 @@ are_few : (n : ℕ) → n ≤ 1000 → distinct_keys (counted n) < 2 ^ 30
 are_few n h = let b = few n in omega (arith, b, h)
 
 found : (n key : ℕ) (o : Option ℤ) (state : Value) → n ≤ 1000 → key ≤ 1000 → IsAfter redblack empty_role put_role UnitV (counted n) state
-    → last_value (counted n) (pos key) ≡ o → outcome (ideal redblack get_role (call_of state (IntV (pos key))) 1000) ≡ Done (answer o)
+    → last_value (counted n) (pos key) ≡ o → outcome (ideal redblack get_role (call_values state (IntV (pos key))) 1000) ≡ Done (answer o)
 found n key o state h small after is =
     let fits : int_fits (pos key) ≡ true = lt-ltb key (2 ^ 63) (omega (arith, small)) in
     let g = red_black_keeps_map.map.get (counted n) state (are_ints n h) after (pos key) fits in

@@ -5,7 +5,7 @@ use Rattle.core_terms.specs.Values.{Value, UnitV, IntV, NoV, AndV}
 use Rattle.core_terms.specs.Terms.{Program}
 use Rattle.ideal_meaning.specs.Run.{Run, Gives, Ends, first_in}
 use Rattle.ideal_meaning.specs.Ideal.{Opened, Outcome, Done, Out, ideal, outcome}
-use Rattle.ideal_meaning.specs.Headline.{call_of}
+use Rattle.ideal_meaning.specs.Headline.{call_values}
 use Rattle.ideal_meaning.specs.Library.{bst, merkle}
 use Rattle.ads_library.specs.Entries.{Entry, entry}
 use Rattle.ads_library.specs.Maps.{argument_of, answer, last_value, distinct_keys}
@@ -32,11 +32,11 @@ emptied P empty_role fuel = given (ideal P empty_role (AndV UnitV NoV) fuel)
 abbrev pub state_after : Program → (put_role fuel : ℕ) → (start : Value) → (puts : List Entry) → Value
 state_after P put_role fuel start [] = start
 state_after P put_role fuel start (newest ∷ earlier) =
-    first_in (given (ideal P put_role (call_of (state_after P put_role fuel start earlier) (argument_of newest)) fuel))
+    first_in (given (ideal P put_role (call_values (state_after P put_role fuel start earlier) (argument_of newest)) fuel))
 
 -- how a get of a key or a place ends
 abbrev pub asked : Program → (get_role : ℕ) → (state : Value) → ℤ → (fuel : ℕ) → Outcome
-asked P get_role state key fuel = outcome (ideal P get_role (call_of state (IntV key)) fuel)
+asked P get_role state key fuel = outcome (ideal P get_role (call_values state (IntV key)) fuel)
 
 -- `bst`: three keys, one below another
 abbrev pub three : List Entry

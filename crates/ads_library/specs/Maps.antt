@@ -5,7 +5,7 @@ use Rattle.core_terms.specs.Values.{Value, UnitV, IntV, PairV, ConV, Values, NoV
 use Rattle.core_terms.specs.Terms.{Program}
 use Rattle.core_terms.specs.Roles.{role_named}
 use Rattle.ideal_meaning.specs.Ideal.{Done, ideal, outcome}
-use Rattle.ideal_meaning.specs.Headline.{call_of}
+use Rattle.ideal_meaning.specs.Headline.{call_values}
 use Rattle.ads_library.specs.Calls.{GivesOnly, GivesWith, Computes}
 use Rattle.ads_library.specs.Entries.{Entry, IsInt, HasInts, AllHaveInts, lookup}
 
@@ -25,7 +25,7 @@ module _ (P : Program) (init update : ℕ) (start : Value) where
   IsAfter [] state = (k : ℕ) × (outcome (ideal P init (AndV start NoV) k) ≡ Done state)
   IsAfter (newest ∷ earlier) state =
       (before reply : Value) × (k : ℕ) × IsAfter earlier before
-      × (outcome (ideal P update (call_of before (argument_of newest)) k) ≡ Done (PairV state reply))
+      × (outcome (ideal P update (call_values before (argument_of newest)) k) ≡ Done (PairV state reply))
 
 -- Of puts, the newest first: the value that was put last for a key; none where none was put.
 abbrev pub last_value : (puts : List Entry) (key : ℤ) → Option ℤ
@@ -65,8 +65,8 @@ pub record KeepsMap (P : Program) (empty_role get_role put_role fuel_of_empty : 
   -- on each such state `get` answers with the value that was put last for the key, and that it is missing where none was put
   pub get : (puts : List Entry) (state : Value) → AllHaveInts puts → IsAfter P empty_role put_role UnitV puts state
       → (key : ℤ) → IsInt key
-      → GivesAfter P fuel AreFew puts get_role (call_of state (IntV key)) (answer (last_value puts key))
+      → GivesAfter P fuel AreFew puts get_role (call_values state (IntV key)) (answer (last_value puts key))
   -- and `put` gives the next state
   pub put : (puts : List Entry) (state : Value) → AllHaveInts puts → IsAfter P empty_role put_role UnitV puts state
       → (e : Entry) → HasInts e
-      → (next : Value) × GivesAfter P fuel AreFew puts put_role (call_of state (argument_of e)) (PairV next UnitV)
+      → (next : Value) × GivesAfter P fuel AreFew puts put_role (call_values state (argument_of e)) (PairV next UnitV)

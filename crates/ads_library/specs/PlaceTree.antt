@@ -3,7 +3,7 @@ use Rattle.std.specs.Prelude.{◌≡◌, ℕ, zero, suc, ◌+◌, ◌*◌, ◌-�
 use Rattle.std.specs.Prelude.{ℤ, pos, negsuc, Option, Some, None, slice_get, slice_set, if◌then◌else◌}
 use Rattle.core_terms.specs.Values.{Value, UnitV, IntV, PairV, ConV, NoV, AndV}
 use Rattle.core_terms.specs.Roles.{role_named}
-use Rattle.ideal_meaning.specs.Headline.{call_of}
+use Rattle.ideal_meaning.specs.Headline.{call_values}
 use Rattle.ideal_meaning.specs.Library.{merkle}
 use Rattle.ads_library.specs.Calls.{Computes}
 use Rattle.ads_library.specs.Entries.{Entry, entry}
@@ -70,9 +70,9 @@ pub record MerkleRoles : Type 0 where
   pub make : (d v : ℤ)
       → Computes merkle make_role (AndV (make_argument d v) NoV) (counted_value (2 ^ exponent d) (filled (exponent d) v)) (2 * exponent d + 3)
   pub get : (c : ℕ) (t : PlaceTree) → IsFull c t → c ≤ 30 → (i : ℕ) → i < 2 ^ c
-      → Computes merkle get_role (call_of (counted_value (2 ^ c) t) (IntV (pos i))) (answer (Some (value_at t (2 ^ c) i))) (c + 2)
+      → Computes merkle get_role (call_values (counted_value (2 ^ c) t) (IntV (pos i))) (answer (Some (value_at t (2 ^ c) i))) (c + 2)
   pub put : (c : ℕ) (t : PlaceTree) → IsFull c t → c ≤ 30 → (i : ℕ) (v : ℤ) → i < 2 ^ c
-      → Computes merkle put_role (call_of (counted_value (2 ^ c) t) (argument_of (entry (pos i) v)))
+      → Computes merkle put_role (call_values (counted_value (2 ^ c) t) (argument_of (entry (pos i) v)))
       (PairV (counted_value (2 ^ c) (changed t (2 ^ c) i v)) UnitV) (c + 2)
 
 -- The plain functions are those of a list of 2^c elements.
@@ -114,11 +114,11 @@ pub record MerkleKeepsList : Type 0 where
   pub reached : (d v : ℤ) (puts : List Entry) → (state : Value) × IsMadeAfter d v puts state
   -- on each such state `get` answers with the element at the place, and that it is missing outside
   pub get : (d v : ℤ) (puts : List Entry) (state : Value) → IsMadeAfter d v puts state → (i : ℤ)
-      → Computes merkle get_role (call_of state (IntV i)) (answer (element (list_after d v puts) i)) (exponent d + 2)
+      → Computes merkle get_role (call_values state (IntV i)) (answer (element (list_after d v puts) i)) (exponent d + 2)
   -- and `put` gives the next state, which outside is the one that it was given
   pub put : (d v : ℤ) (puts : List Entry) (state : Value) → IsMadeAfter d v puts state → (e : Entry)
       → (next : Value) × (element (list_after d v puts) e.key ≡ None → next ≡ state)
-      × Computes merkle put_role (call_of state (argument_of e)) (PairV next UnitV) (exponent d + 2)
+      × Computes merkle put_role (call_values state (argument_of e)) (PairV next UnitV) (exponent d + 2)
   -- each state is a full tree of the list, with the number of its places
   pub states : (d v : ℤ) (puts : List Entry) (state : Value) → IsMadeAfter d v puts state
       → (t : PlaceTree) × (state ≡ counted_value (2 ^ exponent d) t) × IsFull (exponent d) t × (elements t ≡ list_after d v puts)

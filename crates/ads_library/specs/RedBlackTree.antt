@@ -4,7 +4,7 @@ use Rattle.std.specs.Prelude.{◌≡◌, ℕ, zero, suc, max, ◌≤◌, ◌<◌
 use Rattle.std.specs.Prelude.{ℤ, int_lt, Option, Some, None, is_some, if◌then◌else◌}
 use Rattle.std.specs.Ordering.{int_eq}
 use Rattle.core_terms.specs.Values.{Value, UnitV, IntV, PairV, ConV, NoV, AndV}
-use Rattle.ideal_meaning.specs.Headline.{call_of}
+use Rattle.ideal_meaning.specs.Headline.{call_values}
 use Rattle.ads_library.specs.Calls.{Computes}
 use Rattle.ads_library.specs.Entries.{Entry, entry, AllHaveInts, lookup, Ascending}
 use Rattle.ads_library.specs.Maps.{argument_of, IsAfter, IsMapOf, answer, KeepsMap}
@@ -137,9 +137,9 @@ put_role = 9
 -- for twice the height and three calls.
 pub record RedBlackRoles : Type 0 where
   pub empty : Computes redblack empty_role (AndV UnitV NoV) (tree_value Leaf) 1
-  pub get : (t : Tree) (key : ℤ) → Computes redblack get_role (call_of (tree_value t) (IntV key)) (answer (find t key)) (height t + 2)
+  pub get : (t : Tree) (key : ℤ) → Computes redblack get_role (call_values (tree_value t) (IntV key)) (answer (find t key)) (height t + 2)
   pub put : (t : Tree) (e : Entry)
-      → Computes redblack put_role (call_of (tree_value t) (argument_of e)) (PairV (tree_value (insert t e.key e.value)) UnitV) (2 * height t + 3)
+      → Computes redblack put_role (call_values (tree_value t) (argument_of e)) (PairV (tree_value (insert t e.key e.value)) UnitV) (2 * height t + 3)
 
 -- So after `empty` and any puts a get finds the value that was put last for its key; with fewer than 2^30 distinct keys fuel 1,000 is
 -- enough, and 100 for `empty`. Each state is a red-black tree of the map.

@@ -3,7 +3,7 @@ use Rattle.std.specs.Prelude.{◌≡◌, ℕ, suc, ◌+◌, max, ◌≤◌, List
 use Rattle.std.specs.Option.{is_some}
 use Rattle.std.specs.Ordering.{int_eq}
 use Rattle.core_terms.specs.Values.{Value, UnitV, IntV, PairV, ConV, NoV, AndV}
-use Rattle.ideal_meaning.specs.Headline.{call_of}
+use Rattle.ideal_meaning.specs.Headline.{call_values}
 use Rattle.ideal_meaning.specs.Library.{bst}
 use Rattle.ads_library.specs.Calls.{Computes}
 use Rattle.ads_library.specs.Entries.{Entry, entry, AllHaveInts, lookup, Ascending}
@@ -52,9 +52,9 @@ put_role = 4
 -- Each role computes what the plain function gives on its tree, with fuel for two calls more than the tree is high.
 pub record BstRoles : Type 0 where
   pub empty : Computes bst empty_role (AndV UnitV NoV) (tree_value Leaf) 1
-  pub get : (t : Tree) (key : ℤ) → Computes bst get_role (call_of (tree_value t) (IntV key)) (answer (find t key)) (height t + 2)
+  pub get : (t : Tree) (key : ℤ) → Computes bst get_role (call_values (tree_value t) (IntV key)) (answer (find t key)) (height t + 2)
   pub put : (t : Tree) (e : Entry)
-      → Computes bst put_role (call_of (tree_value t) (argument_of e)) (PairV (tree_value (insert t e.key e.value)) UnitV) (height t + 2)
+      → Computes bst put_role (call_values (tree_value t) (argument_of e)) (PairV (tree_value (insert t e.key e.value)) UnitV) (height t + 2)
 
 -- The plain functions are those of a map, on every tree: what was inserted is found, other keys are found as before, and only a new key
 -- adds an entry. Keys stay in order, and where they are a key is found exactly where it has an entry.

@@ -4,7 +4,7 @@ use Rattle.std.specs.Prelude.{◌≡◌, ◌≢◌, ◌<◌, ◌≤◌, ◌+◌,
 use Rattle.std.specs.Prelude.{ℤ, pos, negsuc, ◌*ℤ◌, ◌+ℤ◌, int_lt, Option, Some, None, is_some, if◌then◌else◌}
 use Rattle.std.specs.Ordering.{int_eq}
 use Rattle.core_terms.specs.Values.{Value, UnitV, IntV, PairV, ConV, NoV, AndV}
-use Rattle.ideal_meaning.specs.Headline.{call_of}
+use Rattle.ideal_meaning.specs.Headline.{call_values}
 use Rattle.ads_library.specs.Calls.{Computes}
 use Rattle.ads_library.specs.Entries.{Entry, entry, IsInt, AllHaveInts, lookup, Ascending}
 use Rattle.ads_library.specs.Maps.{argument_of, IsAfter, IsMapOf, answer, AnyNumber, KeepsMap}
@@ -158,9 +158,9 @@ put_role = 14
 -- for twice as much and 21 calls.
 pub record SkipListRoles : Type 0 where
   pub empty : Computes skiplist empty_role (AndV UnitV NoV) (lane_value (bare 17)) 19
-  pub get : (t : Lane) (key : ℤ) → Computes skiplist get_role (call_of (lane_value t) (IntV key)) (answer (find t key)) (reach t + 2)
+  pub get : (t : Lane) (key : ℤ) → Computes skiplist get_role (call_values (lane_value t) (IntV key)) (answer (find t key)) (reach t + 2)
   pub put : (t : Lane) (e : Entry) → IsInt e.key
-      → Computes skiplist put_role (call_of (lane_value t) (argument_of e)) (PairV (lane_value (insert t e.key e.value)) UnitV) (2 * reach t + 21)
+      → Computes skiplist put_role (call_values (lane_value t) (argument_of e)) (PairV (lane_value (insert t e.key e.value)) UnitV) (2 * reach t + 21)
 
 -- So after `empty` and any puts a get finds the value that was put last for its key; with n distinct keys fuel 100 (n + 20) is enough, and
 -- 100 for `empty`. Each state is a skip list of the map.

@@ -7,7 +7,7 @@ use Rattle.session_meaning.specs.Client as meant
 use Rattle.session_meaning.specs.Messages as message
 use Rattle.session_tables.specs.Related.{AreSame}
 use Rattle.ask_core.specs.Clients.{IsAsked, IsKnown, Stands}
-use Rattle.ask_core.specs.Replies.{Follows, IsAnswer, IsReplied, called_type, step_taken, step_to}
+use Rattle.ask_core.specs.Replies.{StepFollows, IsAnswer, IsReplied, called_type, step_taken, step_to}
 use Rattle.ask_core.specs.declared.asked.Asked.{Asked}
 use Rattle.ask_core.specs.declared.replied.Replied.{Replied}
 use Rattle.ask_core.specs.declared.standing.Known.{Known}
@@ -26,7 +26,7 @@ module _ (hash : Hash) (P : Program) (m : meant.Standing) (c : meant.Client) (re
   pub follows : (standing : Option meant.Standing) (answer : meant.Answer) → steps standing answer
       → (s : Option Standing) (told : Result Told AskFault) → replied.standing ≡ s → replied.told ≡ told → AreSame (Stands P) s standing
       → IsAnswer P (called_type P (Some m)) answer told → ((hears forgets : meant.Taken) → step_taken hears forgets told ≡ hears)
-      → Follows hash P m c reply replied
+      → StepFollows hash P m c reply replied
   follows standing answer step s told stands_so told_so stands tells memory = record {
     standing = standing;
     answer = answer;
@@ -38,18 +38,18 @@ module _ (hash : Hash) (P : Program) (m : meant.Standing) (c : meant.Client) (re
 
   -- a wrong reply
   pub follows_wrong : (kind : ℕ) → replied.standing ≡ Some (BrokenBy kind) → replied.told ≡ Err (WrongReply kind)
-      → steps (Some (meant.BrokenBy kind)) (meant.IsWrongReply kind) → Follows hash P m c reply replied
+      → steps (Some (meant.BrokenBy kind)) (meant.IsWrongReply kind) → StepFollows hash P m c reply replied
   follows_wrong kind stands_so told_so step =
       follows (Some (meant.BrokenBy kind)) (meant.IsWrongReply kind) step (Some (BrokenBy kind)) (Err (WrongReply kind)) stands_so told_so refl refl (λ h f. refl)
 
   -- the session is idle, or absent
   pub follows_idle : (known : Known) (k : meant.Known) (told : Told) (answer : meant.Answer) → replied.standing ≡ Some (Idle known) → replied.told ≡ Ok told → IsKnown known k
-      → steps (Some (meant.Idle k)) answer → IsAnswer P (called_type P (Some m)) answer (Ok told) → Follows hash P m c reply replied
+      → steps (Some (meant.Idle k)) answer → IsAnswer P (called_type P (Some m)) answer (Ok told) → StepFollows hash P m c reply replied
   follows_idle known k told answer stands_so told_so is step tells =
       follows (Some (meant.Idle k)) answer step (Some (Idle known)) (Ok told) stands_so told_so is tells (λ h f. refl)
 
   pub follows_absent : (told : Told) (answer : meant.Answer) → replied.standing ≡ None → replied.told ≡ Ok told
-      → steps None answer → IsAnswer P (called_type P (Some m)) answer (Ok told) → Follows hash P m c reply replied
+      → steps None answer → IsAnswer P (called_type P (Some m)) answer (Ok told) → StepFollows hash P m c reply replied
   follows_absent told answer stands_so told_so step tells = follows None answer step None (Ok told) stands_so told_so tt tells (λ h f. refl)
 
 -- ONE THAT IS GREETED

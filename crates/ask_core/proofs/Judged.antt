@@ -22,7 +22,7 @@ use Rattle.verifier_mode.specs.Verdicts.{Tells}
 use Rattle.verifier_mode.specs.declared.verdict.Verdict.{Verdict}
 use Rattle.verifier_mode.specs.declared.verdict.Verdict.TheVariants as verdict
 use Rattle.ask_core.specs.Clients.{IsAsked, IsKnown, Stands}
-use Rattle.ask_core.specs.Replies.{Follows, IsRefused, called_type}
+use Rattle.ask_core.specs.Replies.{StepFollows, IsRefused, called_type}
 use Rattle.ask_core.specs.declared.asked.Asked.{Asked}
 use Rattle.ask_core.specs.declared.replied.Replied.{Replied}
 use Rattle.ask_core.specs.declared.standing.Known.{Known}
@@ -86,7 +86,7 @@ module _ (hash : Hash) (P : Program) (known : Known) (asked : Asked) (k : meant.
       → ((o : ideal.Outcome) → SpellsOutcome P role.result o told → state ≡ meant.state_behind (state_made role.kind o) known.state)
       → ring ≡ kept known.ring.size (after_bytes P.format.limit frames known.ring.size k.recent)
       → behind.state ≡ state → behind.ring ≡ ring → replied.standing ≡ Some (Idle behind) → replied.told ≡ Ok (tells.Outcome told)
-      → Follows hash P stands c (message.Proof session frames) replied
+      → StepFollows hash P stands c (message.Proof session frames) replied
   accepted told state ring replied behind (o, is_accepted, spells) spelled held state_is ring_so stands_so told_so =
       let after : meant.Known = meant.known_behind hash P k a frames o in
       follows hash P stands c (message.Proof session frames) replied (Some (meant.Idle after)) (meant.Tells o) (step_by (checked.Accepted o) is_accepted)
@@ -102,7 +102,7 @@ module _ (hash : Hash) (P : Program) (known : Known) (asked : Asked) (k : meant.
 
   -- any other verdict
   pub refused : (t : Ty) (v : Verdict) (replied : Replied) → Tells P t verdict_here (Err v) → IsRefused session v replied
-      → Follows hash P stands c (message.Proof session frames) replied
+      → StepFollows hash P stands c (message.Proof session frames) replied
   refused t (verdict.Rejected cause) replied says so =
       follows hash P stands c (message.Proof session frames) replied (Some (meant.FailedBy (cause_told cause))) (meant.IsRejected session (cause_told cause))
       (step_by (checked.Rejected (cause_told cause)) says) (Some (FailedBy cause)) (Err (Rejected session cause)) so.0 so.1 refl refl (λ h f. refl)

@@ -18,7 +18,7 @@ use Rattle.ideal_meaning.specs.SpelledOutcomes.{SpellsOutcome}
 use Rattle.session_meaning.specs.Calls.{state_made}
 use Rattle.session_meaning.specs.Client.{state_behind}
 use Rattle.shallow_codec.specs.ProgramTypes.{table, ty_of}
-use Rattle.verifier_mode.specs.Verdicts.{IsTold}
+use Rattle.verifier_mode.specs.Verdicts.{TellsSomeOutcome}
 use Rattle.ask_core.proofs.Called.{update_gives}
 
 module _ (p : Program) (role : Role) (shape : HasRoleShape (meaning p) (role_of (types_of p) role)) where
@@ -57,7 +57,7 @@ module _ (p : Program) (role : Role) (shape : HasRoleShape (meaning p) (role_of 
     pub pair_lent : (answer : Ty) × (ty_of types role.result ≡ PairTy (types_meaning types).state answer)
     pair_lent = (pair.0, subst (λ (types : Types). ty_of types role.result ≡ PairTy (types_meaning types).state pair.0) (sym same) pair.1)
 
-    pub value_lent : IsTold P t (told.Done bytes) → (v : Value) × SpellsLent v
+    pub value_lent : TellsSomeOutcome P t (told.Done bytes) → (v : Value) × SpellsLent v
     value_lent (o, (v, done, spelled)) = (v, to_lent v spelled)
 
     pub state_first : (state first : List ℕ) → ((x y : Value) → SpellsLent (PairV x y) → first ≡ spelling x) → (o : ideal.Outcome) → SpellsOutcome P t o (told.Done bytes)

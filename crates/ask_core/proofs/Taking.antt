@@ -9,7 +9,7 @@ use Rattle.session_tables.specs.Related.{AreRows, AreSame}
 use Rattle.session_tables.proofs.Related.{find_related, put_related, remove_related}
 use Rattle.ask_core.specs.Answers.{fault_told}
 use Rattle.ask_core.specs.Clients.{IsClient, Stands}
-use Rattle.ask_core.specs.Replies.{Follows, IsAnswer, IsReplied, Takes, called_type, step_taken, step_to}
+use Rattle.ask_core.specs.Replies.{StepFollows, IsAnswer, IsReplied, ClientTakes, called_type, step_taken, step_to}
 use Rattle.ask_core.specs.Turns.{reply_refused}
 use Rattle.ask_core.specs.declared.replied.Replied.{Replied}
 use Rattle.ask_core.specs.declared.standing.Standing.{Standing}
@@ -37,7 +37,7 @@ module _ (hash : Hash) (P : Program) (own : List ℕ) (closed : Option ℕ) (row
   forgets = meant.take_event hash P own c (meant.Forgets n)
 
   abbrev TakesTo : Option ℕ → List (Numbered Standing) → Result Told AskFault → Type 0
-  TakesTo closed later told = Takes (IsClient P closed later) P c reply hears forgets told
+  TakesTo closed later told = ClientTakes (IsClient P closed later) P c reply hears forgets told
 
   -- memory is wanted for no reply for all sessions
   abbrev WantsForOne : Result Told AskFault → Type 0
@@ -137,7 +137,7 @@ module _ (hash : Hash) (P : Program) (own : List ℕ) (closed : Option ℕ) (row
         → later ≡ rows_to n replied.standing rows → TakesTo closed later replied.told
     taken standing replied later e follows later_is =
         let m = waits_as standing e in
-        let f : Follows hash P m.0 c reply replied = follows c m.0 m.2 in
+        let f : StepFollows hash P m.0 c reply replied = follows c m.0 m.2 in
         answered closed later replied.told (step_to c n f.standing f.answer)
         (hears_is ∙ ap (λ o. meant.reply_step hash P o c n reply) m.1 ∙ f.step) f.has_memory
         (subst (λ a. IsAnswer P (called_type P (find n c.sessions)) a replied.told) (sym (answer_of f.standing f.answer))

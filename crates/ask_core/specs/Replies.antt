@@ -42,8 +42,8 @@ step_taken hears forgets (Err NoMemory) = forgets
 step_taken hears forgets told = hears
 
 -- The client c takes a reply: its step is answered so, and the client behind it is this one. A reply for all sessions wants no memory.
-abbrev pub Takes : (meant.Client → Type 0) → Program → meant.Client → message.Reply → (hears forgets : meant.Taken) → Result Told AskFault → Type 0
-Takes Is P c reply hears forgets told =
+abbrev pub ClientTakes : (meant.Client → Type 0) → Program → meant.Client → message.Reply → (hears forgets : meant.Taken) → Result Told AskFault → Type 0
+ClientTakes Is P c reply hears forgets told =
     let t = step_taken hears forgets told in
     IsAnswer P (called_type P (find (message.session_of reply) c.sessions)) t.answer told × Is t.client × (told ≡ Err NoMemory → meant.cause_for_all reply ≡ None)
 
@@ -54,7 +54,7 @@ step_to c number (Some standing) answer = meant.standing_step c number standing 
 step_to c number None answer = meant.absent_step c number answer
 
 -- The step of a reply to a session that stands as m is told so, and the session stands so behind it.
-pub record Follows (hash : Hash) (P : Program) (m : meant.Standing) (c : meant.Client) (reply : message.Reply) (replied : Replied) : Type 0 where
+pub record StepFollows (hash : Hash) (P : Program) (m : meant.Standing) (c : meant.Client) (reply : message.Reply) (replied : Replied) : Type 0 where
   pub standing : Option meant.Standing
   pub answer : meant.Answer
   pub step : meant.reply_step hash P (Some m) c (message.session_of reply) reply ≡ step_to c (message.session_of reply) standing answer
@@ -64,7 +64,7 @@ pub record Follows (hash : Hash) (P : Program) (m : meant.Standing) (c : meant.C
 
 -- so it is whatever the client
 abbrev pub IsReplied : Hash → Program → Standing → message.Reply → Replied → Type 0
-IsReplied hash P standing reply replied = (c : meant.Client) (m : meant.Standing) → Stands P standing m → Follows hash P m c reply replied
+IsReplied hash P standing reply replied = (c : meant.Client) (m : meant.Standing) → Stands P standing m → StepFollows hash P m c reply replied
 
 -- what follows of a verdict that isn't an outcome; of a failure of the source nothing does, nor of want of memory
 abbrev pub IsRefused : ℕ → Verdict → Replied → Type 0

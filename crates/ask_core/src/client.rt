@@ -10,7 +10,7 @@ ghost use Rattle.session_tables.specs.Tables.{HasRoom, rows_of};
 ghost use Rattle.wire_form.specs.MessageViews.{reply_meant};
 ghost use Rattle.ask_core.specs.Answers.{Asks};
 ghost use Rattle.ask_core.specs.Clients.{IsClient};
-ghost use Rattle.ask_core.specs.Replies.{Takes};
+ghost use Rattle.ask_core.specs.Replies.{ClientTakes};
 ghost use Rattle.ask_core.specs.Turns.{greeting_refused, idle_refused, reply_refused, standing_waits};
 ghost use Rattle.ask_core.specs.declared.standing.Standing.{Standing};
 ghost use Rattle.ask_core.specs.declared.standing.Standing.TheVariants.{Idle};
@@ -165,7 +165,7 @@ impl<H: Hash32> AskCore<H> {
     pub fn take_reply(&mut self, reply: Reply) -> Result<Told, AskFault>
         ensures answer { let P = program_of self.old.code in let own = (program_in self.old.code).text_digest.0 in let r = reply_meant reply in
             (c : Client) → IsClient P self.old.closed (rows_of self.old.sessions) c
-            → Takes (IsClient P self.new.closed (rows_of self.new.sessions)) P c r
+            → ClientTakes (IsClient P self.new.closed (rows_of self.new.sessions)) P c r
             (take_event H.hash P own c (Hears r)) (take_event H.hash P own c (Forgets (session_of r))) result }
         ensures code { self.new.code ≡ self.old.code }
     {

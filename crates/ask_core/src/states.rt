@@ -8,7 +8,7 @@ ghost use Rattle.ideal_meaning.specs.Ideal as ideal;
 ghost use Rattle.ideal_meaning.specs.SpelledOutcomes.{SpellsOutcome};
 ghost use Rattle.session_meaning.specs.Calls.{state_made};
 ghost use Rattle.session_meaning.specs.Client.{state_behind};
-ghost use Rattle.verifier_mode.specs.Verdicts.{IsTold};
+ghost use Rattle.verifier_mode.specs.Verdicts.{TellsSomeOutcome};
 
 use core_terms::{Outcome, Program, Role, RoleKind, Spelling};
 use shallow_codec::first_spelled;
@@ -23,7 +23,7 @@ pub fn state_behind(
     outcome: &Outcome<Spelling>,
 ) -> Result<Spelling, AllocError>
     requires shape { HasRoleShape (meaning program.now) (role_of (types_of program.now) role.now) }
-    requires told { IsTold (meaning program.now) (type_at (types_of program.now) role.now.result) outcome.now }
+    requires told { TellsSomeOutcome (meaning program.now) (type_at (types_of program.now) role.now.result) outcome.now }
     ensures { IfOk result (λ behind. (o : ideal.Outcome) → SpellsOutcome (meaning program.now) (type_at (types_of program.now) role.now.result) o outcome.now
         → behind ≡ state_behind (state_made (role_kind_of role.now.kind) o) state) }
 {

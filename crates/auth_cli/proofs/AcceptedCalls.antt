@@ -11,12 +11,14 @@ use Rattle.core_terms.specs.Projection.{digest_at, projection}
 use Rattle.core_terms.specs.Roles.{argument_type}
 use Rattle.core_terms.proofs.LawProofs.{plain_is_own_projection}
 use Rattle.ideal_meaning.specs.Checked.{Accepted, verdict}
-use Rattle.ideal_meaning.specs.Headline.{call_of}
+use Rattle.ideal_meaning.specs.Headline.{call_values}
 use Rattle.ideal_meaning.specs.Ideal.{ideal, outcome, outcome_projection}
 use Rattle.ideal_meaning.proofs.Companion.{companion}
 use Rattle.printed_syntax.specs.LiteralLaws.{IsLiteralValue}
 use Rattle.printed_syntax.proofs.LiteralsReadBack.{literals_are_read_back}
-use Rattle.file_commands.specs.Answer.{image_read, role_verdict, state_projection}
+use Rattle.file_commands.specs.OutcomeAnswers.{state_projection}
+use Rattle.file_commands.specs.RoleInputs.{role_verdict}
+use Rattle.file_commands.specs.FileInputs.{image_read}
 use Rattle.file_commands.specs.IdealCalls.{IdealCall, call_pieces, call_proof, called_program, projected_outcome}
 use Rattle.file_commands.specs.NamedCalls.{NamesInputs, NamesRole}
 use Rattle.file_commands.specs.ProvedCalls.{IsAcceptedCall}
@@ -70,4 +72,4 @@ call_is_accepted call n meant few =
     meant.state.fits meant.argument.fits meant.state.deep k n few in
     subst (λ (own : Value). verdict sha256 P t f (spelling (projection sha256 P P.state s)) (spelling own) k (call_proof call n) ≡ Accepted (projected_outcome call))
     (own_projection call meant)
-    (accepted ∙ ap (λ (t : Ty). Accepted (outcome_projection sha256 P t (outcome (ideal P f (call_of s x) k)))) (sym reader.result))
+    (accepted ∙ ap (λ (t : Ty). Accepted (outcome_projection sha256 P t (outcome (ideal P f (call_values s x) k)))) (sym reader.result))

@@ -26,8 +26,11 @@ use Rattle.auth_types.specs.CheckedPrograms.{Checked, checked}
 use Rattle.auth_types.specs.CheckedPrograms as checking
 use Rattle.object_meaning.specs.Accepting.{Acceptance, accepting}
 use Rattle.object_meaning.specs.Accepting as object
-use Rattle.file_commands.specs.Answer.{Answer, RoleCall, answer_with, audited_answer, call_audit_answer, command_answer, fetched_answer, image_read, input_refused, judged_answer, max_file, mirror_read, mirrored_answer, callee_of, proof_answer, proved_answer, refusal_status, refused, state_read, verified_answer}
-use Rattle.file_commands.specs.Answer.{with_bytes, with_file, with_fuel, with_fueled_role, with_ideal_call, with_image, with_kept, with_program_bytes, with_program_file, with_object_or_text, with_literal, with_mirror, with_mirror_file, with_number, with_passed, with_pieces, with_program, with_role_at, with_role_call, with_root, with_state, with_state_read}
+use Rattle.file_commands.specs.Answer.{answer_with, audited_answer, call_audit_answer, command_answer, fetched_answer, judged_answer, mirror_read, mirrored_answer, callee_of, proof_answer, proved_answer, verified_answer}
+use Rattle.file_commands.specs.RoleInputs.{RoleCall, with_fueled_role, with_ideal_call, with_passed, with_role_at, with_role_call}
+use Rattle.file_commands.specs.FileInputs.{image_read, max_file, state_read, with_bytes, with_file, with_fuel, with_image, with_program_bytes, with_program_file, with_object_or_text, with_literal, with_number, with_program, with_root, with_state, with_state_read}
+use Rattle.file_commands.specs.AnswerForms.{Answer, input_refused, refusal_status, refused}
+use Rattle.file_commands.specs.Answer.{with_kept, with_mirror, with_mirror_file, with_pieces}
 use Rattle.file_commands.specs.Arguments.{fuel_of}
 use Rattle.number_words.specs.Numbers.{number_within}
 use Rattle.file_commands.specs.AuditedCalls.{CallsAudit, TellsAnAudit}

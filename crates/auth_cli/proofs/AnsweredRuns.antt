@@ -8,7 +8,9 @@ use Rattle.command_words.specs.Invocations.{Invocation, invocation_of}
 use Rattle.command_words.specs.declared.command.Command.TheVariants.{Audit, Prove}
 use Rattle.ideal_meaning.specs.Ideal.{Outcome, Done, Trapped, Out}
 use Rattle.collision_audit.specs.Splits.{Split}
-use Rattle.file_commands.specs.Answer.{Answer, answer, call_audit_answer, called_answer, command_answer, proof_answer, shallow_told}
+use Rattle.file_commands.specs.Answer.{answer, call_audit_answer, called_answer, command_answer, proof_answer}
+use Rattle.file_commands.specs.OutcomeAnswers.{shallow_told}
+use Rattle.file_commands.specs.AnswerForms.{Answer}
 use Rattle.number_words.specs.Numbers.{is_number, number_within}
 use Rattle.file_commands.specs.AuditedCalls.{CallsAudit, IsAudited, SplitsAt, TellsAnAudit}
 use Rattle.file_commands.specs.Codes.{code}

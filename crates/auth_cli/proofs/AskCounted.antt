@@ -4,7 +4,8 @@ use Rattle.command_words.specs.declared.command.Command.TheVariants.{Ask}
 use Rattle.lam_outside.specs.Causes.{Rose}
 use Rattle.lam_outside.specs.Told.{Contents}
 use Rattle.script_play.specs.declared.halt.Halt.TheVariants as halt
-use Rattle.file_commands.specs.Answer.{Answer, Asking}
+use Rattle.file_commands.specs.Answer.{Asking}
+use Rattle.file_commands.specs.AnswerForms.{Answer}
 use Rattle.auth_cli.specs.Asking.{AskCounts, EndsAsking, EndsPlay, FailsToDial, IsEndTold, PlayEnd, PlayFaults, PlayWrites}
 use Rattle.file_commands.specs.Ending.{EndsAs, Outside}
 use Rattle.auth_cli.specs.NetFaults.{NetFaults, NetRose}

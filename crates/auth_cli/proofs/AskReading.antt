@@ -9,8 +9,9 @@ use Rattle.ask_script.specs.Scripts.{Script, UserStep, script_of}
 use Rattle.ask_script.specs.declared.script.ScriptFault.{ScriptFault}
 use Rattle.ask_script.specs.declared.script.ScriptFault.TheVariants as script_fault
 use Rattle.ask_script.specs.declared.step.Step.{Step}
-use Rattle.file_commands.specs.Answer.{Answer, Asking, script_read, with_script, with_steps}
-use Rattle.file_commands.specs.Halting.{GoesOn, InHand, of_script_fault}
+use Rattle.file_commands.specs.Answer.{Asking, script_read, with_script, with_steps}
+use Rattle.file_commands.specs.AnswerForms.{Answer}
+use Rattle.file_commands.specs.Halting.{StepGives, InHand, of_script_fault}
 use Rattle.file_commands.specs.ReadPrograms.{named_of}
 use Rattle.file_commands.specs.FilePrograms.{IsOfTextOrObject}
 use Rattle.file_commands.specs.declared.report.Halt.{Halt}
@@ -26,12 +27,12 @@ module _ (p : Program) (text : List ℕ) where
 
   -- a line is at fault, or memory was wanting
   pub script_refused : {T : Type 0} (value : T → List UserStep) (fault : ScriptFault) (result : Result T Halt) → IsErrAnd result (λ halt. halt ≡ of_script_fault fault)
-      → ReadsScript {Z = Global} script (Err fault) → InHand (GoesOn (with_script (named_of p) text) value) result
+      → ReadsScript {Z = Global} script (Err fault) → InHand (StepGives (with_script (named_of p) text) value) result
   unfolding script_read
   script_refused value fault (Ok t) halt reads = absurd halt
-  script_refused value fault (Err h) halt reads = subst (λ h. InHand (GoesOn (with_script (named_of p) text) value) (Err h)) (sym halt) (by fault reads)
+  script_refused value fault (Err h) halt reads = subst (λ h. InHand (StepGives (with_script (named_of p) text) value) (Err h)) (sym halt) (by fault reads)
     where
-      by : (fault : ScriptFault) → ReadsScript {Z = Global} script (Err fault) → InHand (GoesOn (with_script (named_of p) text) value) (Err (of_script_fault fault))
+      by : (fault : ScriptFault) → ReadsScript {Z = Global} script (Err fault) → InHand (StepGives (with_script (named_of p) text) value) (Err (of_script_fault fault))
       by (script_fault.Line number) reads = λ go. ap (λ s. with_steps s go) reads
       by script_fault.NoMemory reads = λ go. tt
 
@@ -42,7 +43,7 @@ module _ (p : Program) (text : List ℕ) where
 
 -- a step on what is in hand, behind one that goes on with it
 pub goes_on_behind : {A B T : Type 0} (first : (A → Option Answer) → Option Answer) (a : A) (next : A → (B → Option Answer) → Option Answer) (value : T → B) (result : Result T Halt)
-    → ((go : A → Option Answer) → first go ≡ go a) → InHand (GoesOn (next a) value) result → GoesOn (λ go. first (λ a. next a go)) value result
+    → ((go : A → Option Answer) → first go ≡ go a) → InHand (StepGives (next a) value) result → StepGives (λ go. first (λ a. next a go)) value result
 goes_on_behind first a next value (Ok t) is goes = λ go. is (λ a. next a go) ∙ goes go
 goes_on_behind first a next value (Err Usage) is goes = absurd goes
 goes_on_behind first a next value (Err (Refused (refusal.Program kind line column))) is goes = λ go. halts_behind _ _ (Refused (refusal.Program kind line column)) (is (λ a. next a go)) (goes go)

@@ -4,7 +4,8 @@ use Rattle.std.specs.Borrow.{Bor}
 use Rattle.command_words.specs.Commands.{texts}
 use Rattle.command_words.specs.declared.command.Command.TheVariants.{Ask}
 use Rattle.lam_outside.specs.Told.{Contents, Names}
-use Rattle.file_commands.specs.Answer.{Answer, Asking, answer_with, unasked_answer, with_asking}
+use Rattle.file_commands.specs.Answer.{Asking, answer_with, unasked_answer, with_asking}
+use Rattle.file_commands.specs.AnswerForms.{Answer}
 use Rattle.auth_cli.specs.Asking.{EndsAsking, IsOfWords, MeansAsking}
 use Rattle.file_commands.specs.Ending.{Outside}
 use Rattle.auth_cli.specs.OnlineRuns.{NetSeen}

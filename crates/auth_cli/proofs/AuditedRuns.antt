@@ -10,7 +10,8 @@ use Rattle.printed_lines.specs.Lines.{collision_line, rejected_line}
 use Rattle.collision_audit.specs.Audits.{Audit, Collides, Judges, unless_split, verdict_on_projections}
 use Rattle.collision_audit.specs.Splits.{Split, offered_in}
 use Rattle.collision_audit.proofs.FirstSplits.{split_is_found}
-use Rattle.file_commands.specs.Answer.{agreeing, audit_told, call_audit_answer, shallow_told}
+use Rattle.file_commands.specs.Answer.{agreeing, audit_told, call_audit_answer}
+use Rattle.file_commands.specs.OutcomeAnswers.{shallow_told}
 use Rattle.file_commands.specs.AuditedCalls.{AgreesOnOutcome, AuditSays, SplitsAt}
 use Rattle.file_commands.specs.IdealCalls.{IdealCall, call_audit, called_program, values_called}
 use Rattle.file_commands.specs.declared.status.Status.{Status}

@@ -4,7 +4,8 @@ use Rattle.command_words.specs.declared.command.Command.TheVariants.{Draw}
 use Rattle.ideal_meaning.specs.Checked.{Verdict, Accepted, Rejected, BadState, BadArgument}
 use Rattle.ideal_meaning.specs.Ideal.{Done, Trapped, Out}
 use Rattle.lam_outside.specs.Told.{Contents}
-use Rattle.file_commands.specs.Answer.{Answer, Drawing}
+use Rattle.file_commands.specs.Answer.{Drawing}
+use Rattle.file_commands.specs.AnswerForms.{Answer}
 use Rattle.file_commands.specs.Ending.{EndsAs, Outside}
 use Rattle.file_commands.specs.Statuses.{MayAnswer}
 use Rattle.file_commands.specs.Telling.{TellsText}

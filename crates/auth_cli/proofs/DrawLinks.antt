@@ -15,7 +15,8 @@ use Rattle.session_meaning.specs.FetchMessages.{AskedLink, LinkAnswers, LinkGive
 use Rattle.wire_form.specs.Fetches.{Asked}
 use Rattle.wire_form.specs.MovedBytes.{Moves}
 use Rattle.wire_form.proofs.Moving.{moves_on}
-use Rattle.file_commands.specs.Answer.{Drawing, RoleCall}
+use Rattle.file_commands.specs.Answer.{Drawing}
+use Rattle.file_commands.specs.RoleInputs.{RoleCall}
 use Rattle.file_commands.specs.Ending.{Outside}
 use Rattle.file_commands.specs.RoleCalls.{program_called}
 use Rattle.file_commands.specs.declared.status.Status.{Status}

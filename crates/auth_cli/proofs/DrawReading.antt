@@ -5,7 +5,9 @@ use Rattle.core_terms.specs.Terms.{Program, function_at}
 use Rattle.printed_lines.specs.declared.refusal.Argument.TheVariants as named
 use Rattle.printed_lines.specs.declared.refusal.InputFault.{InputFault}
 use Rattle.printed_lines.specs.declared.refusal.InputFault.TheVariants.{Number, RoleKind, RoleUnknown}
-use Rattle.file_commands.specs.Answer.{Answer, input_refused, says, with_fuel, with_number, with_role_at}
+use Rattle.file_commands.specs.RoleInputs.{with_role_at}
+use Rattle.file_commands.specs.FileInputs.{with_fuel, with_number}
+use Rattle.file_commands.specs.AnswerForms.{Answer, input_refused, says}
 use Rattle.file_commands.specs.Arguments.{fuel_of}
 use Rattle.file_commands.specs.FueledRoles.{FueledRole, NamedProgram}
 use Rattle.file_commands.specs.RoleCalls.{is_called}

@@ -4,7 +4,8 @@ use Rattle.std.specs.Borrow.{Bor}
 use Rattle.command_words.specs.Commands.{texts}
 use Rattle.command_words.specs.declared.command.Command.TheVariants.{Draw}
 use Rattle.lam_outside.specs.Told.{Contents, Names}
-use Rattle.file_commands.specs.Answer.{Answer, Drawing, answer_with, undrawn_answer, with_drawing}
+use Rattle.file_commands.specs.Answer.{Drawing, answer_with, undrawn_answer, with_drawing}
+use Rattle.file_commands.specs.AnswerForms.{Answer}
 use Rattle.file_commands.specs.Ending.{Outside}
 use Rattle.file_commands.specs.Reaching.{IsReached}
 use Rattle.file_commands.specs.declared.status.Status.{Status}

@@ -4,7 +4,9 @@ use Rattle.std.specs.List.{concat}
 use Rattle.ideal_meaning.specs.Checked.{Verdict}
 use Rattle.piece_fetch.specs.Verdicts.{VerdictCause}
 use Rattle.piece_fetch.specs.declared.verdict.FetchVerdict.TheVariants as judged
-use Rattle.file_commands.specs.Answer.{Answer, RoleCall, says, shallow_told, verdict_answer}
+use Rattle.file_commands.specs.OutcomeAnswers.{shallow_told}
+use Rattle.file_commands.specs.RoleInputs.{RoleCall}
+use Rattle.file_commands.specs.AnswerForms.{Answer, says, verdict_answer}
 use Rattle.file_commands.specs.FetchedCalls.{IsNoFault, ReportsVerdict, TellsVerdict}
 use Rattle.file_commands.specs.Halting.{Finds, Found, WithoutFiles, halt_line, halt_status, line_of, status_of}
 use Rattle.file_commands.specs.RoleCalls.{program_called, result_called}

@@ -9,7 +9,7 @@ use Rattle.core_terms.specs.Terms.{function_at}
 use Rattle.ideal_meaning.specs.Checked.{Accepted}
 use Rattle.ideal_meaning.specs.Fetched.{TrueFromOrSplit, answered, asking, fetched, verdict_from}
 use Rattle.ideal_meaning.specs.Frames.{offered_pieces}
-use Rattle.ideal_meaning.specs.Headline.{call_of}
+use Rattle.ideal_meaning.specs.Headline.{call_values}
 use Rattle.ideal_meaning.specs.Run.{state_of}
 use Rattle.ideal_meaning.proofs.Fetching.{fetch_headline}
 use Rattle.file_commands.specs.Answer.{Drawing}
@@ -43,7 +43,7 @@ drawn_truth texts d of = λ state argument ideal_state ideal_argument state_is a
     let reads = reader P f sound (role_within P name.0 f name.1) (calls_reads OfState (kind_called r) tt of.called) in
     let on_state = subst (λ s. verdict_from sha256 P t f s d.call.argument r.fuel answers ≡ Accepted o) state_is accepted in
     let on_both = subst (λ a. verdict_from sha256 P t f (spelling (projection sha256 P P.state state)) a r.fuel answers ≡ Accepted o) argument_is on_state in
-    let more = offered_pieces (state_of (fetched sha256 P f (call_of (projection sha256 P P.state state) (projection sha256 P t argument)) r.fuel (asking answers))).more in
-    subst (λ t. TrueFromOrSplit sha256 P f t (call_of state argument) r.fuel (offered_pieces (answered answers)) more o) (sym reads.result)
+    let more = offered_pieces (state_of (fetched sha256 P f (call_values (projection sha256 P P.state state) (projection sha256 P t argument)) r.fuel (asking answers))).more in
+    subst (λ t. TrueFromOrSplit sha256 P f t (call_values state argument) r.fuel (offered_pieces (answered answers)) more o) (sym reads.result)
     (fetch_headline sha256 length-sha256 P reads.format reads.typed (sound_whole P sound) f (function_at P f).kind t reads.answer reads.role reads.reads state
     argument ideal_state ideal_argument r.fuel answers o on_both)

@@ -19,9 +19,11 @@ use Rattle.session_turns.specs.declared.shared.Shared.{Shared as Held}
 use Rattle.session_turns.proofs.Rows.{alike_length}
 use Rattle.value_store.specs.Stores.{nodes_in}
 use Rattle.version_journal.specs.declared.opening.Opened.{Opened}
-use Rattle.file_commands.specs.Answer.{Answer, Serving, ServingNumbers, serving_of, with_program_file, with_serving_numbers}
+use Rattle.file_commands.specs.Answer.{Serving, ServingNumbers, serving_of, with_serving_numbers}
+use Rattle.file_commands.specs.FileInputs.{with_program_file}
+use Rattle.file_commands.specs.AnswerForms.{Answer}
 use Rattle.file_commands.specs.FueledRoles.{DigestedProgram, NamedProgram}
-use Rattle.file_commands.specs.Halting.{GoesOn, HaltsAs, InHand}
+use Rattle.file_commands.specs.Halting.{StepGives, HaltsAs, InHand}
 use Rattle.file_commands.specs.ReadPrograms.{digested_of, named_of}
 use Rattle.file_commands.specs.declared.report.Halt.{Halt}
 use Rattle.file_commands.specs.declared.report.Halt.TheVariants.{Usage, Refused, ReadFault, NoMemory}
@@ -102,10 +104,10 @@ memory_halts words told disk disk' result is = subst (ReadsHost words told disk 
 
 -- a step on what is in hand halted the work, behind work that faulted at nothing
 pub hand_cause : {A U T : Type 0} (step : (A → Option Answer) → Option Answer) (value : U → A) (files files' reads writes : ℕ) (halt : Halt) (result : Result T DiskStop)
-    → result ≡ Err (Halts halt) → files' ≡ files → InHand (GoesOn step value) (Err halt) → WorkCause files files' reads reads writes writes result
+    → result ≡ Err (Halts halt) → files' ≡ files → InHand (StepGives step value) (Err halt) → WorkCause files files' reads reads writes writes result
 hand_cause {T = T} step value files files' reads writes halt result is same goes = subst (WorkCause files files' reads reads writes writes) (sym is) (by halt goes)
   where
-    by : (halt : Halt) → InHand (GoesOn step value) (Err halt) → WorkCause {T = T} files files' reads reads writes writes (Err (Halts halt))
+    by : (halt : Halt) → InHand (StepGives step value) (Err halt) → WorkCause {T = T} files files' reads reads writes writes (Err (Halts halt))
     by Usage goes = absurd goes
     by (Refused (refusal.Program kind line column)) goes = (same, refl, refl)
     by (Refused (refusal.Object kind)) goes = (same, refl, refl)

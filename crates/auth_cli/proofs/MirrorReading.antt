@@ -4,7 +4,9 @@ use Rattle.lam_outside.specs.Told.{Contents}
 use Rattle.printed_lines.specs.declared.refusal.Argument.{Argument}
 use Rattle.printed_lines.specs.declared.refusal.Argument.TheVariants.{Connections}
 use Rattle.printed_lines.specs.declared.refusal.InputFault.TheVariants.{Number}
-use Rattle.file_commands.specs.Answer.{Answer, Mirroring, input_refused, with_mirror_file, with_number}
+use Rattle.file_commands.specs.Answer.{Mirroring, with_mirror_file}
+use Rattle.file_commands.specs.FileInputs.{with_number}
+use Rattle.file_commands.specs.AnswerForms.{Answer, input_refused}
 use Rattle.file_commands.specs.Arguments.{most_links, positive_within}
 use Rattle.file_commands.specs.declared.status.Status.TheVariants.{InputRefused}
 use Rattle.auth_cli.specs.PreparedMirrors.{mirroring_by}

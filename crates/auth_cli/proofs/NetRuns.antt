@@ -6,7 +6,8 @@ use Rattle.command_words.specs.declared.command.Command.{Command}
 use Rattle.command_words.specs.declared.command.Command.TheVariants.{Ask, Draw, Found, Host, Mirror, Replay, Serve}
 use Rattle.lam_outside.specs.Causes.{Rose}
 use Rattle.lam_outside.specs.Told.{Contents, Names}
-use Rattle.file_commands.specs.Answer.{Answer, answer, answer_with, called_answer, usage_answer}
+use Rattle.file_commands.specs.Answer.{answer, answer_with, called_answer}
+use Rattle.file_commands.specs.AnswerForms.{Answer, usage_answer}
 use Rattle.file_commands.specs.Codes.{code}
 use Rattle.file_commands.specs.Ending.{EndsAs, Outside}
 use Rattle.file_commands.specs.Reaching.{IsReached, ReachedAt}

@@ -2,7 +2,8 @@
 use Rattle.std.proofs.Common.{◌≡◌, ◌⊎◌, inl, inr, ℕ, List, true, false, Option, refl, sym, subst}
 use Rattle.command_words.specs.declared.command.Command.TheVariants.{Serve}
 use Rattle.lam_outside.specs.Told.{Contents}
-use Rattle.file_commands.specs.Answer.{Answer, Serving}
+use Rattle.file_commands.specs.Answer.{Serving}
+use Rattle.file_commands.specs.AnswerForms.{Answer}
 use Rattle.file_commands.specs.Ending.{EndsAs, Outside}
 use Rattle.auth_cli.specs.NetFaults.{NetFaults}
 use Rattle.auth_cli.specs.OnlineRuns.{CountsBy, NetSeen}

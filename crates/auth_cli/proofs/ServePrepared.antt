@@ -34,7 +34,8 @@ use Rattle.images.specs.declared.fault.SaveFault.{SaveFault}
 use Rattle.std.specs.declared.alloc.Global.{Global}
 use Rattle.value_store.specs.declared.store.Store.{Store}
 use Rattle.value_store.proofs.ProverNodes.{shown_ideal}
-use Rattle.file_commands.specs.Answer.{Serving, first_shared, state_image}
+use Rattle.file_commands.specs.Answer.{Serving, first_shared}
+use Rattle.file_commands.specs.OutcomeAnswers.{state_image}
 use Rattle.file_commands.specs.FueledRoles.{DigestedProgram}
 use Rattle.auth_cli.specs.PreparedServers.{HoldsProgram}
 use Rattle.auth_cli.specs.ServeSteps.{IsServer}

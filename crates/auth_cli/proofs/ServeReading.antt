@@ -4,8 +4,10 @@ use Rattle.core_terms.specs.Programs.{meaning}
 use Rattle.core_terms.specs.Values.{Value}
 use Rattle.core_terms.specs.declared.program.Program.{Program}
 use Rattle.images.specs.declared.load.Loaded.{Loaded}
-use Rattle.file_commands.specs.Answer.{Answer, Serving, ServingNumbers, first_shared, serving_of, with_image_file}
-use Rattle.file_commands.specs.Halting.{GoesOnFor, HaltsAs}
+use Rattle.file_commands.specs.Answer.{Serving, ServingNumbers, first_shared, serving_of}
+use Rattle.file_commands.specs.FileInputs.{with_image_file}
+use Rattle.file_commands.specs.AnswerForms.{Answer}
+use Rattle.file_commands.specs.Halting.{StepGivesFor, HaltsAs}
 use Rattle.auth_cli.specs.PreparedServers.{BeginsWith}
 use Rattle.file_commands.specs.ReadPrograms.{digested_of}
 use Rattle.file_commands.specs.StoredStates.{IsStoredState}
@@ -16,9 +18,9 @@ use Rattle.file_commands.proofs.Steps.{halts_behind}
 -- an image that is refused behind numbers that are in order halts both
 pub image_halts : (p q : Program) → q ≡ p → (first : (ServingNumbers → Option Answer) → Option Answer) (numbers : ServingNumbers) (file : Option (List ℕ))
     → ((go : ServingNumbers → Option Answer) → first go ≡ go numbers) → (result : Result Beginning Halt) (halt : Halt) → result ≡ Err halt
-    → GoesOnFor {T = Loaded} (with_image_file (digested_of q) file) (IsStoredState (meaning q)) (Err halt)
-    → GoesOnFor (λ go. first (λ numbers. with_image_file (digested_of p) file (λ v. go (serving_of (digested_of p) numbers (first_shared v))))) (BeginsWith p) result
+    → StepGivesFor {T = Loaded} (with_image_file (digested_of q) file) (IsStoredState (meaning q)) (Err halt)
+    → StepGivesFor (λ go. first (λ numbers. with_image_file (digested_of p) file (λ v. go (serving_of (digested_of p) numbers (first_shared v))))) (BeginsWith p) result
 image_halts p q same first numbers file goes result halt is halts =
-    subst (GoesOnFor (λ go. first (λ numbers. with_image_file (digested_of p) file (λ v. go (serving_of (digested_of p) numbers (first_shared v))))) (BeginsWith p)) (sym is)
+    subst (StepGivesFor (λ go. first (λ numbers. with_image_file (digested_of p) file (λ v. go (serving_of (digested_of p) numbers (first_shared v))))) (BeginsWith p)) (sym is)
     (λ go. halts_behind _ _ halt (goes (λ numbers. with_image_file (digested_of p) file (λ v. go (serving_of (digested_of p) numbers (first_shared v)))))
     (subst (λ q. HaltsAs (with_image_file (digested_of q) file (λ v. go (serving_of (digested_of p) numbers (first_shared v)))) halt) same (halts (λ v. go (serving_of (digested_of p) numbers (first_shared v))))))

@@ -5,7 +5,8 @@ use Rattle.std.specs.Option.{ForSome}
 use Rattle.command_words.specs.Commands.{texts}
 use Rattle.command_words.specs.declared.command.Command.TheVariants.{Serve}
 use Rattle.lam_outside.specs.Told.{Contents, Names}
-use Rattle.file_commands.specs.Answer.{Answer, Serving, ServingNumbers, answer_with, unserved_answer, with_serving}
+use Rattle.file_commands.specs.Answer.{Serving, ServingNumbers, answer_with, unserved_answer, with_serving}
+use Rattle.file_commands.specs.AnswerForms.{Answer}
 use Rattle.file_commands.specs.Ending.{Outside}
 use Rattle.file_commands.specs.Reaching.{IsReached}
 use Rattle.auth_cli.specs.PreparedServers.{IsPrepared, numbers_held}

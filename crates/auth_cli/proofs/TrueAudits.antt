@@ -9,14 +9,15 @@ use Rattle.core_terms.specs.Terms.{Program, function_at}
 use Rattle.core_terms.specs.Types.{Ty}
 use Rattle.core_terms.specs.Values.{Value}
 use Rattle.ideal_meaning.specs.Checked.{Verdict, BadState, BadArgument, Rejected, Accepted, verdict}
-use Rattle.ideal_meaning.specs.Headline.{call_of}
+use Rattle.ideal_meaning.specs.Headline.{call_values}
 use Rattle.ideal_meaning.specs.Ideal.{honest_pieces, ideal, outcome, outcome_projection}
 use Rattle.collision_audit.specs.Audits.{Audit, Collides, IsOnProof, Judges, verdict_on_projections}
 use Rattle.collision_audit.specs.Splits.{offered_in, split_of}
 use Rattle.collision_audit.proofs.AuditHeadline.{agreement_is_true, collides, judges}
 use Rattle.collision_audit.proofs.FirstSplits.{no_split_is_found, split_is_found}
 use Rattle.collision_audit.proofs.OnProof.{verdict_is_on_proof}
-use Rattle.file_commands.specs.Answer.{role_verdict, state_projection}
+use Rattle.file_commands.specs.OutcomeAnswers.{state_projection}
+use Rattle.file_commands.specs.RoleInputs.{role_verdict}
 use Rattle.file_commands.specs.AuditedCalls.{SplitsAt, SplitsNowhere}
 use Rattle.file_commands.specs.IdealCalls.{IdealCall, call_audit, call_pieces, called_program, projected_outcome}
 use Rattle.file_commands.specs.ProvedCalls.{client_call}
@@ -61,7 +62,7 @@ module _ (call : IdealCall) (proof : List ℕ) (meant : IsMeant call) where
   unfolding call_audit
   splits_nowhere v e =
       let none = judges (split_of sha256 P f s x k proof) (verdict_on_projections sha256 P t f s x k proof) v e in
-      ((no_split_is_found sha256 P.format (offered_in P.format proof) (honest_pieces sha256 P f (call_of s x) k)).0 none.0, none.1)
+      ((no_split_is_found sha256 P.format (offered_in P.format proof) (honest_pieces sha256 P f (call_values s x) k)).0 none.0, none.1)
 
   on_proof : IsOnProof (verdict_on_projections sha256 P t f s x k proof)
   on_proof =
@@ -71,14 +72,14 @@ module _ (call : IdealCall) (proof : List ℕ) (meant : IsMeant call) where
   unfolding call_audit call_pieces projected_outcome outcome_called
   is_so (Collides split) e =
       let found = collides (split_of sha256 P f s x k proof) (verdict_on_projections sha256 P t f s x k proof) split e in
-      (split_is_found sha256 P.format (offered_in P.format proof) (honest_pieces sha256 P f (call_of s x) k) split).0 found
+      (split_is_found sha256 P.format (offered_in P.format proof) (honest_pieces sha256 P f (call_values s x) k) split).0 found
   is_so (Judges (Accepted o)) e =
       let nowhere = splits_nowhere (Accepted o) e in
       let reader = meant.reader in
       let is_true =
       agreement_is_true sha256 length-sha256 P reader.format reader.typed f (function_at P f).kind t reader.answer reader.role reader.reads s x
       meant.state.ideal meant.argument.ideal k proof o e in
-      let outcome_is = is_true.1 ∙ ap (λ (t : Ty). outcome_projection sha256 P t (outcome (ideal P f (call_of s x) k))) (sym reader.result) in
+      let outcome_is = is_true.1 ∙ ap (λ (t : Ty). outcome_projection sha256 P t (outcome (ideal P f (call_values s x) k))) (sym reader.result) in
       (nowhere.0, is_true.0, client_verdict ∙ nowhere.1, outcome_is)
   is_so (Judges (Rejected cause)) e = let nowhere = splits_nowhere (Rejected cause) e in (nowhere.0, client_verdict ∙ nowhere.1)
   is_so (Judges (BadState offset)) e = subst IsOnProof (splits_nowhere (BadState offset) e).1 on_proof

@@ -12,7 +12,10 @@ use Rattle.core_terms.specs.Terms.{Program}
 use Rattle.core_terms.specs.Values.{Value}
 use Rattle.ideal_meaning.specs.Checked.{Verdict}
 use Rattle.ideal_meaning.specs.Ideal.{Outcome, Done, Trapped, Out}
-use Rattle.file_commands.specs.Answer.{Answer, RoleCall, answer, called_answer, fetched_answer, fetched_verdict, mirror_read, mirrored_answer, shallow_told, verdict_answer}
+use Rattle.file_commands.specs.Answer.{answer, called_answer, fetched_answer, fetched_verdict, mirror_read, mirrored_answer}
+use Rattle.file_commands.specs.OutcomeAnswers.{shallow_told}
+use Rattle.file_commands.specs.RoleInputs.{RoleCall}
+use Rattle.file_commands.specs.AnswerForms.{Answer, verdict_answer}
 use Rattle.file_commands.specs.Codes.{code}
 use Rattle.file_commands.specs.Ending.{Outside, EndsAs, IsToldAs}
 use Rattle.file_commands.specs.FueledRoles.{FueledRole}

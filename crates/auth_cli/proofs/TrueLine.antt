@@ -13,7 +13,9 @@ use Rattle.core_terms.specs.Terms.{Program}
 use Rattle.core_terms.specs.Values.{Value}
 use Rattle.ideal_meaning.specs.Ideal.{Outcome}
 use Rattle.ideal_meaning.specs.Checked.{Verdict, BadState, BadArgument, Rejected, Accepted}
-use Rattle.file_commands.specs.Answer.{Answer, RoleCall, accepted_answer, answer, answer_with, called_answer, callee_of, judged_answer, role_verdict, verdict_answer, verified_answer}
+use Rattle.file_commands.specs.Answer.{accepted_answer, answer, answer_with, called_answer, callee_of, judged_answer, verified_answer}
+use Rattle.file_commands.specs.RoleInputs.{RoleCall, role_verdict}
+use Rattle.file_commands.specs.AnswerForms.{Answer, verdict_answer}
 use Rattle.file_commands.specs.Arguments.{fuel_of}
 use Rattle.file_commands.specs.Codes.{code}
 use Rattle.file_commands.specs.Ending.{Outside, EndsAs, IsToldAs}

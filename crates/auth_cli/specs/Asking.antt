@@ -19,7 +19,8 @@ use Rattle.script_play.specs.declared.halt.Halt.{Halt}
 use Rattle.script_play.specs.declared.halt.Halt.TheVariants as halt
 use Rattle.session_meaning.specs.Client.{new_client}
 use Rattle.session_meaning.specs.Messages.{Messages, Reply, messages, reply_of}
-use Rattle.file_commands.specs.Answer.{Answer, Asking, answer_with, with_asking}
+use Rattle.file_commands.specs.Answer.{Asking, answer_with, with_asking}
+use Rattle.file_commands.specs.AnswerForms.{Answer}
 use Rattle.file_commands.specs.Ending.{EndsAs, Outside}
 use Rattle.file_commands.specs.FueledRoles.{NamedProgram}
 use Rattle.auth_cli.specs.NetFaults.{NetFaults}

@@ -21,7 +21,8 @@ use Rattle.serve_core.specs.declared.server.ServeCore.{ServeCore}
 use Rattle.link_ends.specs.declared.end.ServingEnd.TheVariants as end
 use Rattle.serve_links.specs.Connections.{AnyKept}
 use Rattle.serve_links.specs.ServedLinks.{AreServedInPart}
-use Rattle.file_commands.specs.Answer.{Answer, Serving, answer_with, with_serving}
+use Rattle.file_commands.specs.Answer.{Serving, answer_with, with_serving}
+use Rattle.file_commands.specs.AnswerForms.{Answer}
 use Rattle.file_commands.specs.Ending.{EndsAs, Outside}
 use Rattle.auth_cli.specs.NetFaults.{NetFaults}
 use Rattle.auth_cli.specs.OnlineRuns.{CountsBy, NetSeen}

@@ -17,7 +17,7 @@ use Rattle.core_terms.specs.declared.program.Program.{Program}
 use Rattle.ideal_meaning.specs.Checked.{Verdict, Accepted}
 use Rattle.ideal_meaning.specs.Fetched.{Answered, Got, TrueFromOrSplit, answered, asking, fetched, verdict_from}
 use Rattle.ideal_meaning.specs.Frames.{offered_pieces}
-use Rattle.ideal_meaning.specs.Headline.{call_of}
+use Rattle.ideal_meaning.specs.Headline.{call_values}
 use Rattle.ideal_meaning.specs.Ideal.{Outcome}
 use Rattle.ideal_meaning.specs.Run.{state_of}
 use Rattle.lam_outside.specs.Causes.{Rose}
@@ -28,14 +28,17 @@ use Rattle.piece_fetch.specs.declared.verdict.FetchVerdict.TheVariants as judged
 use Rattle.printed_lines.specs.Lines.{link_fault_line}
 use Rattle.session_meaning.specs.FetchMessages.{LinkAnswers}
 use Rattle.wire_form.specs.MovedBytes.{Moves}
-use Rattle.file_commands.specs.Answer.{Answer, Drawing, RoleCall, answer_with, shallow_told, verdict_answer, with_drawing, with_fueled_role}
+use Rattle.file_commands.specs.Answer.{Drawing, answer_with, with_drawing}
+use Rattle.file_commands.specs.OutcomeAnswers.{shallow_told}
+use Rattle.file_commands.specs.RoleInputs.{RoleCall, with_fueled_role}
+use Rattle.file_commands.specs.AnswerForms.{Answer, verdict_answer}
 use Rattle.file_commands.specs.Arguments.{fuel_of}
 use Rattle.file_commands.specs.Ending.{EndsAs, Outside}
 use Rattle.file_commands.specs.FetchedCalls.{TellsVerdict}
 use Rattle.file_commands.specs.FueledRoles.{FueledRole, NamedProgram}
 use Rattle.file_commands.specs.RoleCalls.{is_called, kind_called, program_called, result_called}
 use Rattle.file_commands.specs.RolesCalled.{IsCalled}
-use Rattle.file_commands.specs.RolesJudged.{call_of as call_held}
+use Rattle.file_commands.specs.RolesJudged.{call_meant as call_held}
 use Rattle.file_commands.specs.FilePrograms.{IsOfTextOrObject}
 use Rattle.file_commands.specs.Telling.{TellsText}
 use Rattle.file_commands.specs.declared.roles.Callee.TheVariants.{OfState}
@@ -64,8 +67,8 @@ module _ (d : Drawing) where
       (state argument : Value) → IsIdeal P.types P.state state → IsIdeal P.types t argument
       → d.call.state ≡ spelling (projection sha256 P P.state state) → d.call.argument ≡ spelling (projection sha256 P t argument)
       → (answers : List Got) (o : Outcome) → verdict_on d.call answers ≡ Accepted o
-      → TrueFromOrSplit sha256 P r.role (result_called r) (call_of state argument) r.fuel (offered_pieces (answered answers))
-      (offered_pieces (state_of (fetched sha256 P r.role (call_of (projection sha256 P P.state state) (projection sha256 P t argument)) r.fuel (asking answers))).more) o
+      → TrueFromOrSplit sha256 P r.role (result_called r) (call_values state argument) r.fuel (offered_pieces (answered answers))
+      (offered_pieces (state_of (fetched sha256 P r.role (call_values (projection sha256 P P.state state) (projection sha256 P t argument)) r.fuel (asking answers))).more) o
   draws_truth draws = draws
 
 -- LINKS

@@ -12,7 +12,7 @@ use Rattle.core_terms.specs.Values.{Value, IsIdeal}
 use Rattle.ideal_meaning.specs.Checked.{Verdict, Accepted}
 use Rattle.ideal_meaning.specs.Fetched.{Answered, Got, TrueFromOrSplit, answered, fetched, asking, verdict_from}
 use Rattle.ideal_meaning.specs.Frames.{offered_pieces}
-use Rattle.ideal_meaning.specs.Headline.{call_of}
+use Rattle.ideal_meaning.specs.Headline.{call_values}
 use Rattle.ideal_meaning.specs.Ideal.{Outcome}
 use Rattle.ideal_meaning.specs.Run.{state_of}
 use Rattle.lam_outside.specs.Causes.{Rose}
@@ -21,7 +21,10 @@ use Rattle.lam_outside.specs.Told.{Contents}
 use Rattle.link_ends.specs.MoreLinks.{bytes_on}
 use Rattle.printed_lines.specs.Lines.{link_fault_line}
 use Rattle.session_meaning.specs.FetchMessages.{LinkAnswers}
-use Rattle.file_commands.specs.Answer.{Answer, Drawing, RoleCall, answer_with, shallow_told, verdict_answer, with_drawing}
+use Rattle.file_commands.specs.Answer.{Drawing, answer_with, with_drawing}
+use Rattle.file_commands.specs.OutcomeAnswers.{shallow_told}
+use Rattle.file_commands.specs.RoleInputs.{RoleCall}
+use Rattle.file_commands.specs.AnswerForms.{Answer, verdict_answer}
 use Rattle.file_commands.specs.Arguments.{fuel_of}
 use Rattle.file_commands.specs.Ending.{Outside, EndsAs}
 use Rattle.file_commands.specs.RoleCalls.{is_called, kind_called, program_called, result_called}
@@ -54,8 +57,8 @@ DrawsTrueOutcomes call =
     (state argument : Value) → IsIdeal P.types P.state state → IsIdeal P.types t argument
     → call.state ≡ spelling (projection sha256 P P.state state) → call.argument ≡ spelling (projection sha256 P t argument)
     → (answers : List Got) (o : Outcome) → verdict_on call answers ≡ Accepted o
-    → TrueFromOrSplit sha256 P r.role (result_called r) (call_of state argument) r.fuel (offered_pieces (answered answers))
-    (offered_pieces (state_of (fetched sha256 P r.role (call_of (projection sha256 P P.state state) (projection sha256 P t argument)) r.fuel (asking answers))).more) o
+    → TrueFromOrSplit sha256 P r.role (result_called r) (call_values state argument) r.fuel (offered_pieces (answered answers))
+    (offered_pieces (state_of (fetched sha256 P r.role (call_values (projection sha256 P P.state state) (projection sha256 P t argument)) r.fuel (asking answers))).more) o
 
 -- LINKS
 -- Where the links behind it are told, those before it are, and there is one more, to the port.

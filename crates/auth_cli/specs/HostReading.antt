@@ -2,7 +2,8 @@
 use Rattle.std.specs.Prelude.{◌≡◌, ◌⊎◌, ℕ, List, Option, Result, Ok, Err, ⊤}
 use Rattle.std.specs.Option.{ForSome}
 use Rattle.lam_outside.specs.Told.{Contents}
-use Rattle.file_commands.specs.Answer.{Answer, Serving}
+use Rattle.file_commands.specs.Answer.{Serving}
+use Rattle.file_commands.specs.AnswerForms.{Answer}
 use Rattle.file_commands.specs.Halting.{HaltsAs}
 use Rattle.journal_commands.specs.DisksSeen.{DiskSeen, file_in}
 use Rattle.journal_commands.specs.declared.stop.DiskStop.{DiskStop}

@@ -19,7 +19,8 @@ use Rattle.version_journal.specs.AtGates.{IsAt}
 use Rattle.version_journal.specs.Gates.{AtLast, LeavesOnly, Passed}
 use Rattle.version_journal.specs.Journals.{SpellsJournal}
 use Rattle.version_journal.specs.Synced.{IsSynced}
-use Rattle.file_commands.specs.Answer.{Answer, Serving}
+use Rattle.file_commands.specs.Answer.{Serving}
+use Rattle.file_commands.specs.AnswerForms.{Answer}
 use Rattle.file_commands.specs.Ending.{Outside}
 use Rattle.file_commands.specs.declared.status.Status.{Status}
 use Rattle.file_commands.specs.declared.status.Status.TheVariants.{Done, ReadFault, WriteFault, NoMemory}

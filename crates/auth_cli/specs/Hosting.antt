@@ -16,7 +16,9 @@ use Rattle.session_meaning.specs.Server.{Server, version_at}
 use Rattle.session_meaning.specs.Beginnings.{IsFront}
 use Rattle.version_journal.specs.Gates.{AtLast, LeavesOnly, Passed}
 use Rattle.version_journal.specs.Journals.{SpellsJournal}
-use Rattle.file_commands.specs.Answer.{Answer, Serving, serving_of, with_program_file, with_serving_numbers}
+use Rattle.file_commands.specs.Answer.{Serving, serving_of, with_serving_numbers}
+use Rattle.file_commands.specs.FileInputs.{with_program_file}
+use Rattle.file_commands.specs.AnswerForms.{Answer}
 use Rattle.file_commands.specs.Ending.{EndsAs, Outside}
 use Rattle.file_commands.specs.declared.status.Status.{Status}
 use Rattle.file_commands.specs.declared.status.Status.TheVariants.{WriteFault}

@@ -14,7 +14,8 @@ use Rattle.mirror_links.specs.AnsweredLinks.{AreAnsweredInPart}
 use Rattle.piece_mirror.specs.Answers.{given_by}
 use Rattle.piece_mirror.specs.Tables.{bytes_of}
 use Rattle.printed_lines.specs.Lines.{listening_line}
-use Rattle.file_commands.specs.Answer.{Answer, Mirroring, answer_with, with_mirroring}
+use Rattle.file_commands.specs.Answer.{Mirroring, answer_with, with_mirroring}
+use Rattle.file_commands.specs.AnswerForms.{Answer}
 use Rattle.file_commands.specs.Ending.{EndsAs, Outside}
 use Rattle.file_commands.specs.declared.status.Status.{Status}
 use Rattle.file_commands.specs.declared.status.Status.TheVariants.{Done, ReadFault, WriteFault, NoMemory}

@@ -10,7 +10,8 @@ use Rattle.lam_outside.specs.Told.{Contents}
 use Rattle.mirror_links.specs.AnsweredLinks.{AreAnswered, AreAnsweredInPart}
 use Rattle.piece_mirror.specs.Answers.{given_by}
 use Rattle.printed_lines.specs.Lines.{link_fault_line, listening_line}
-use Rattle.file_commands.specs.Answer.{Answer, Mirroring, answer_with, with_mirroring}
+use Rattle.file_commands.specs.Answer.{Mirroring, answer_with, with_mirroring}
+use Rattle.file_commands.specs.AnswerForms.{Answer}
 use Rattle.file_commands.specs.Ending.{Outside, EndsAs}
 use Rattle.auth_cli.specs.Courses.{AreLinesTold, AreMade, Course, HasFaults, NotListening, NotWritten, Served, WithoutMemory, fault_lines, listened_behind}
 use Rattle.auth_cli.specs.NetFaults.{NetFaults}

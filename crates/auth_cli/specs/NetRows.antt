@@ -5,7 +5,8 @@ use Rattle.command_words.specs.Invocations.{Invocation}
 use Rattle.command_words.specs.declared.command.Command.TheVariants.{Check, Init, Ideal, Step, Shallow, Migrate, Prove, Verify, Audit, Library, Gen, Serve, Ask, Pieces, Fetch, Mirror, Draw, Found, Host, Replay, Emit}
 use Rattle.lam_outside.specs.Causes.{Rose}
 use Rattle.lam_outside.specs.Told.{Contents, Names}
-use Rattle.file_commands.specs.Answer.{Answer, answer_with, usage_answer}
+use Rattle.file_commands.specs.Answer.{answer_with}
+use Rattle.file_commands.specs.AnswerForms.{Answer, usage_answer}
 use Rattle.file_commands.specs.Ending.{EndsAs, Outside}
 use Rattle.file_commands.specs.Reaching.{IsReached}
 use Rattle.auth_cli.specs.Asking.{AskCounts, IsAsk}

@@ -2,10 +2,12 @@
 use Rattle.std.specs.Prelude.{◌≡◌, ℕ, List, [], ◌∷◌, Option}
 use Rattle.code_gen.specs.Programs.{program_in}
 use Rattle.core_terms.specs.declared.program.Program.{Program}
-use Rattle.file_commands.specs.Answer.{Answer, Drawing, with_fueled_role}
+use Rattle.file_commands.specs.Answer.{Drawing}
+use Rattle.file_commands.specs.RoleInputs.{with_fueled_role}
+use Rattle.file_commands.specs.AnswerForms.{Answer}
 use Rattle.file_commands.specs.FueledRoles.{FueledRole, NamedProgram}
 use Rattle.file_commands.specs.RolesCalled.{IsCalled}
-use Rattle.file_commands.specs.RolesJudged.{call_of}
+use Rattle.file_commands.specs.RolesJudged.{call_meant}
 use Rattle.file_commands.specs.declared.roles.Callee.TheVariants.{OfState}
 use Rattle.auth_cli.specs.declared.drawing.DrawInputs.{DrawInputs}
 use Rattle.auth_cli.specs.declared.drawing.DrawWords.{DrawWords}
@@ -17,10 +19,10 @@ texts_of words = words.call.program.now ∷ words.call.role.now ∷ words.state.
 
 -- what is to be judged of a program with these inputs, and what is held of it
 abbrev pub drawn_with : Program → DrawInputs → Drawing
-drawn_with p inputs = record { call = call_of p inputs.call; port = inputs.port }
+drawn_with p inputs = record { call = call_meant p inputs.call; port = inputs.port }
 
 abbrev pub drawing_of : PreparedDrawing → Drawing
-drawing_of held = record { call = call_of (program_in held.code) held.call; port = held.port }
+drawing_of held = record { call = call_meant (program_in held.code) held.call; port = held.port }
 
 -- The words tell this role and its fuel: with them it is gone on, whatever the files hold.
 abbrev pub TellsRole : NamedProgram → (role fuel : List ℕ) → FueledRole → Type 0

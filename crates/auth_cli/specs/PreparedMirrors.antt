@@ -3,7 +3,9 @@ use Rattle.std.specs.Prelude.{◌≡◌, ℕ, List, Option}
 use Rattle.piece_mirror.specs.Tables.{bytes_of}
 use Rattle.printed_lines.specs.Lines.{listening_line}
 use Rattle.printed_lines.specs.declared.refusal.Argument.TheVariants as named
-use Rattle.file_commands.specs.Answer.{Answer, Mirroring, with_number}
+use Rattle.file_commands.specs.Answer.{Mirroring}
+use Rattle.file_commands.specs.FileInputs.{with_number}
+use Rattle.file_commands.specs.AnswerForms.{Answer}
 use Rattle.file_commands.specs.Arguments.{most_links, most_port, positive_within}
 use Rattle.auth_cli.specs.declared.mirroring.PreparedMirror.{PreparedMirror}
 

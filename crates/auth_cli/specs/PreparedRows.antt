@@ -16,7 +16,8 @@ use Rattle.serve_core.specs.declared.server.ServeCore.{ServeCore}
 use Rattle.serve_links.specs.HistoriesInCode.{HasServed}
 use Rattle.session_meaning.specs.Client.{new_client}
 use Rattle.session_meaning.specs.Server.{begun_server}
-use Rattle.file_commands.specs.Answer.{Answer, Serving, first_shared, serving_of}
+use Rattle.file_commands.specs.Answer.{Serving, first_shared, serving_of}
+use Rattle.file_commands.specs.AnswerForms.{Answer}
 use Rattle.file_commands.specs.ReadPrograms.{digested_of}
 use Rattle.file_commands.specs.StoredStates.{IsStoredState}
 use Rattle.auth_cli.specs.PreparedClients.{FitProgram, IsReady}

@@ -11,7 +11,9 @@ use Rattle.serve_core.specs.Serving.{Serves}
 use Rattle.serve_core.specs.declared.server.ServeCore.{ServeCore}
 use Rattle.serve_links.specs.HistoriesInCode.{HasServed}
 use Rattle.session_meaning.specs.Server.{begun_server}
-use Rattle.file_commands.specs.Answer.{Answer, Serving, ServingNumbers, first_shared, serving_of, with_image_file, with_serving_numbers}
+use Rattle.file_commands.specs.Answer.{Serving, ServingNumbers, first_shared, serving_of, with_serving_numbers}
+use Rattle.file_commands.specs.FileInputs.{with_image_file}
+use Rattle.file_commands.specs.AnswerForms.{Answer}
 use Rattle.file_commands.specs.FueledRoles.{DigestedProgram}
 use Rattle.file_commands.specs.ReadPrograms.{digested_of}
 use Rattle.file_commands.specs.StoredStates.{IsStoredState}

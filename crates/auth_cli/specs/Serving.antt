@@ -18,7 +18,10 @@ use Rattle.serve_links.specs.Connections.{AnyKept}
 use Rattle.serve_links.specs.ServedLinks.{AreServed, AreServedInPart}
 use Rattle.session_meaning.specs.Calls.{RoleCall}
 use Rattle.session_meaning.specs.Server.{Server, begun_server, last_turn, version_at}
-use Rattle.file_commands.specs.Answer.{Answer, Serving, answer_with, max_file, state_image, with_serving}
+use Rattle.file_commands.specs.Answer.{Serving, answer_with, with_serving}
+use Rattle.file_commands.specs.OutcomeAnswers.{state_image}
+use Rattle.file_commands.specs.FileInputs.{max_file}
+use Rattle.file_commands.specs.AnswerForms.{Answer}
 use Rattle.file_commands.specs.Ending.{Outside, EndsAs}
 use Rattle.auth_cli.specs.Courses.{AreMade, Course, HasFaults, IsListening, NotListening, NotWritten, Served, WithoutMemory, WritesFront, course_status, fault_lines, greeting_of, listened_behind}
 use Rattle.auth_cli.specs.NetFaults.{NetFaults}

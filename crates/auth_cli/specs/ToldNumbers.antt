@@ -1,6 +1,8 @@
 -- The numbers that serving tells.
 use Rattle.std.specs.Prelude.{◌≡◌, ℕ, List, Option}
-use Rattle.file_commands.specs.Answer.{Answer, Serving, ServingNumbers, with_serving_numbers, with_number}
+use Rattle.file_commands.specs.Answer.{Serving, ServingNumbers, with_serving_numbers}
+use Rattle.file_commands.specs.FileInputs.{with_number}
+use Rattle.file_commands.specs.AnswerForms.{Answer}
 use Rattle.printed_lines.specs.declared.refusal.Argument.TheVariants as named
 use Rattle.file_commands.specs.Arguments.{most_port, positive_within}
 

@@ -8,7 +8,7 @@ ghost use Rattle.ask_script.specs.ScriptAnswers.{step_meant};
 ghost use Rattle.ask_script.specs.Scripts.{Fits};
 ghost use Rattle.file_commands.specs.Answer.{unasked_answer, with_asked, with_asking, with_script, with_script_file};
 ghost use Rattle.auth_cli.specs.Asking.{IsOfScript, IsOfSources};
-ghost use Rattle.file_commands.specs.Halting.{GoesOn, HaltCause, InHand};
+ghost use Rattle.file_commands.specs.Halting.{StepGives, HaltCause, InHand};
 ghost use Rattle.auth_cli.specs.PreparedClients.{FitProgram, IsReady, asked_by, asked_with};
 ghost use Rattle.auth_cli.specs.ToldNumbers.{TellsPort};
 ghost use Rattle.file_commands.specs.ReadPrograms.{named_of};
@@ -61,7 +61,7 @@ pub fn read_asking<F: Files>(
     words: &AskWords<'_>,
     files: &mut F,
 ) -> Result<PreparedClient, Halt>
-    ensures goes { let words = words.now in ForSome (F.contents files.old) (λ told. GoesOn
+    ensures goes { let words = words.now in ForSome (F.contents files.old) (λ told. StepGives
         (with_asking words.program.now words.state.now words.port.now words.script.now told) asked_by result) }
     ensures ready { IfOk result IsReady }
     ensures of_sources { IfOk result (λ client. IsOfSources (asked_by client)) }
@@ -87,7 +87,7 @@ fn read_inputs<F: Files>(
     program: &Program,
     words: &AskWords<'_>,
 ) -> Result<AskInputs, Halt>
-    ensures goes { let words = words.now in let p = program.now in ForSome (F.contents files.old) (λ told. GoesOn
+    ensures goes { let words = words.now in let p = program.now in ForSome (F.contents files.old) (λ told. StepGives
         (with_asked (named_of p) words.state.now words.port.now words.script.now told) (asked_with p) result) }
     ensures fits { IfOk result (FitProgram program.now) }
     ensures port { IfOk result (λ inputs. TellsPort words.now.port.now inputs.port) }
@@ -117,7 +117,7 @@ fn read_script_file<F: Files>(
     name: &str,
 ) -> Result<Vec<Step>, Halt>
     ensures goes { ForSome (F.contents files.old) (λ told.
-        GoesOn (with_script_file (named_of program.now) (told name.now)) (λ steps. map step_meant steps.items) result) }
+        StepGives (with_script_file (named_of program.now) (told name.now)) (λ steps. map step_meant steps.items) result) }
     ensures fits { IfOk result (λ steps. All (λ step. Fits (meaning program.now) (step_meant step)) steps.items) }
     ensures script { IfOk result (λ steps. IsOfScript (named_of program.now) (map step_meant steps.items)) }
     ensures asked { FaultsAt name.now (F.asked files.new) result }
@@ -132,7 +132,7 @@ fn read_script_file<F: Files>(
 
 /// The steps of a script.
 fn steps_in(alloc: Global, program: &Program, text: &[u8]) -> Result<Vec<Step>, Halt>
-    ensures goes { InHand (GoesOn (with_script (named_of program.now) text.now) (λ steps. map step_meant steps.items)) result }
+    ensures goes { InHand (StepGives (with_script (named_of program.now) text.now) (λ steps. map step_meant steps.items)) result }
     ensures fits { IfOk result (λ steps. All (λ step. Fits (meaning program.now) (step_meant step)) steps.items) }
     ensures script { IfOk result (λ steps. IsOfScript (named_of program.now) (map step_meant steps.items)) }
 {

@@ -2,7 +2,7 @@
 ghost use Rattle.std.specs.Prelude.{◌≡◌, IfOk, None};
 ghost use Rattle.std.specs.Option.{ForSome};
 ghost use Rattle.file_commands.specs.Answer.{undrawn_answer, with_drawing, with_drawn};
-ghost use Rattle.file_commands.specs.Halting.{GoesOn, HaltCause};
+ghost use Rattle.file_commands.specs.Halting.{StepGives, HaltCause};
 ghost use Rattle.file_commands.specs.ReadPrograms.{named_of};
 ghost use Rattle.file_commands.specs.Reaching.{FaultsAtReached};
 ghost use Rattle.file_commands.specs.RolesCalled.{IsCalled, role_of};
@@ -51,7 +51,7 @@ pub fn read_drawing<F: Files>(
     words: &DrawWords<'_>,
     files: &mut F,
 ) -> Result<PreparedDrawing, Halt>
-    ensures goes { let words = words.now in ForSome (F.contents files.old) (λ told. GoesOn
+    ensures goes { let words = words.now in ForSome (F.contents files.old) (λ told. StepGives
         (with_drawing words.call.program.now words.call.role.now words.state.now words.call.argument.now words.call.fuel.now words.port.now told) drawing_of result) }
     ensures ready { IfOk result IsReady }
     ensures of_sources { IfOk result (λ held. IsOfSources (texts_of words.now) (drawing_of held)) }
@@ -77,7 +77,7 @@ fn read_inputs<F: Files>(
     program: &Program,
     words: &DrawWords<'_>,
 ) -> Result<DrawInputs, Halt>
-    ensures goes { let words = words.now in let p = program.now in ForSome (F.contents files.old) (λ told. GoesOn
+    ensures goes { let words = words.now in let p = program.now in ForSome (F.contents files.old) (λ told. StepGives
         (with_drawn (named_of p) words.call.role.now words.state.now words.call.argument.now words.call.fuel.now words.port.now told) (drawn_with p) result) }
     ensures called { IfOk result (λ inputs. IsCalled OfState program.now inputs.call.called) }
     ensures role { let words = words.now in let p = program.now in IfOk result (λ inputs.

@@ -4,7 +4,7 @@ ghost use Rattle.std.specs.Option.{ForSome};
 ghost use Rattle.command_words.specs.declared.command.Command.TheVariants.{Mirror as MirrorCommand};
 ghost use Rattle.piece_mirror.specs.Tables.{bytes_of};
 ghost use Rattle.file_commands.specs.Answer.{unmirrored_answer, with_mirroring};
-ghost use Rattle.file_commands.specs.Halting.{GoesOn, HaltCause, halt_status};
+ghost use Rattle.file_commands.specs.Halting.{StepGives, HaltCause, halt_status};
 ghost use Rattle.file_commands.specs.Reaching.{FaultsAtReached};
 ghost use Rattle.file_commands.specs.Statuses.{MayAnswer};
 ghost use Rattle.auth_cli.specs.PreparedMirrors.{HasGreeting, TellMirrorNumbers, mirroring_by, mirroring_of};
@@ -44,7 +44,7 @@ pub fn read_mirroring<F: Files>(
     words: &MirrorWords<'_>,
     files: &mut F,
 ) -> Result<Box<PreparedMirror>, Halt>
-    ensures goes { let words = words.now in ForSome (F.contents files.old) (λ told. GoesOn
+    ensures goes { let words = words.now in ForSome (F.contents files.old) (λ told. StepGives
         (with_mirroring words.mirror.now words.port.now words.connections.now told) (λ held. mirroring_of held.value) result) }
     ensures greeting { IfOk result (λ held. HasGreeting held.value) }
     ensures numbers { let words = words.now in IfOk result (λ held. TellMirrorNumbers words.port.now words.connections.now held.value.port held.value.connections) }

@@ -5,7 +5,7 @@ ghost use Rattle.code_gen.specs.Programs.{program_in};
 ghost use Rattle.core_terms.specs.Programs.{meaning};
 ghost use Rattle.core_terms.specs.Values.{Value};
 ghost use Rattle.file_commands.specs.Answer.{Serving, first_shared, serving_of, unserved_answer, with_serving, with_serving_numbers};
-ghost use Rattle.file_commands.specs.Halting.{GoesOn, GoesOnFor, HaltCause, InHand};
+ghost use Rattle.file_commands.specs.Halting.{StepGives, StepGivesFor, HaltCause, InHand};
 ghost use Rattle.file_commands.specs.Reaching.{FaultsAtReached};
 ghost use Rattle.file_commands.specs.ReadPrograms.{digested_of};
 ghost use Rattle.auth_cli.specs.PreparedServers.{BeginsWith, IsPrepared, numbers_held, numbers_of, with_beginning};
@@ -69,7 +69,7 @@ pub fn read_serving<F: Files>(
     words: &ServeWords<'_>,
     files: &mut F,
 ) -> Result<Box<PreparedServer>, Halt>
-    ensures goes { let words = words.now in ForSome (F.contents files.old) (λ told. GoesOnFor
+    ensures goes { let words = words.now in ForSome (F.contents files.old) (λ told. StepGivesFor
         (with_serving words.program.now words.image.now words.port.now words.connections.now words.slice.now told) (λ server s. IsPrepared server.value s) result) }
     ensures prepared { IfOk result (λ server. (s : Serving) × IsPrepared server.value s) }
     ensures numbers { let words = words.now in IfOk result (λ server. TellNumbers words.port.now words.connections.now words.slice.now (numbers_held server.value)) }
@@ -94,7 +94,7 @@ fn read_beginning<F: Files>(
     code: &Code,
     words: &ServeWords<'_>,
 ) -> Result<Beginning, Halt>
-    ensures goes { let words = words.now in let p = program_in code.now in ForSome (F.contents files.old) (λ told. GoesOnFor
+    ensures goes { let words = words.now in let p = program_in code.now in ForSome (F.contents files.old) (λ told. StepGivesFor
         (with_beginning (digested_of p) words.image.now words.port.now words.connections.now words.slice.now told) (BeginsWith p) result) }
     ensures stands { IfOk result (λ beginning. (v : Value) × IsStoredState (meaning (program_in code.now)) beginning.state v) }
     ensures slice { IfOk result (λ beginning. 1 ≤ beginning.numbers.slice) }
@@ -113,7 +113,7 @@ fn read_beginning<F: Files>(
 
 /// The numbers that words tell. The first that is refused halts it.
 pub fn read_numbers(port: &str, connections: &str, slice: &str) -> Result<Numbers, Halt>
-    ensures goes { InHand (GoesOn (with_serving_numbers port.now connections.now slice.now) numbers_of) result }
+    ensures goes { InHand (StepGives (with_serving_numbers port.now connections.now slice.now) numbers_of) result }
     ensures slice { IfOk result (λ numbers. 1 ≤ numbers.slice) }
 {
     let port = positive_named(port, Argument::Port, MOST_PORT)?;

@@ -9,7 +9,7 @@ use Rattle.core_terms.specs.declared.fault.Fault.TheVariants.{At, NoMemory}
 use Rattle.lexemes.specs.declared.fault.SyntaxKind.TheVariants.{Expected, Lexical, TooNested}
 use Rattle.lexemes.specs.Tokens.{MarkToken, Tokens, Next, count}
 use Rattle.lexemes.specs.Readings.{SyntaxFault, Reading, Found, then_read, read_mark, read_keyword}
-use Rattle.lexemes.specs.Remaining.{Reads, Takes, read_if_mark}
+use Rattle.lexemes.specs.Remaining.{Reads, TakesToken, read_if_mark}
 use Rattle.auth_syntax.specs.Syntax.{NameSyntax, UnaryOperation, ArrayOperation, ExpSyntax, UnitSyntax, PairSyntax, UnarySyntax, BinarySyntax, OperateSyntax, LetSyntax, IfSyntax, MatchSyntax}
 use Rattle.auth_syntax.specs.Nesting.{others_of}
 use Rattle.auth_syntax.specs.Parsing.{in_a_row, read_brackets, read_operate, read_so_many, read_lower, read_upper, read_list, read_optional_list, read_call, read_constructor, read_expression, operation_from, read_unit_or_pair, read_let, read_if, read_match, read_arms}
@@ -74,7 +74,7 @@ none_begun view levels before after left NoMemory h = tt
 
 -- where no token stands, no expression begins
 pub none_taken : (levels : ℕ) (before after : Tokens) (fault : SyntaxFault)
-    → Takes before (Err fault) after → Begins levels before (Err fault) after
+    → TakesToken before (Err fault) after → Begins levels before (Err fault) after
 none_taken levels before after (At Expected at) h = ap (read_expression levels) h ∙ (expression_is_tokens levels).at_end at
 none_taken levels before after (At (Lexical kind) at) h = ap (read_expression levels) h ∙ (expression_is_tokens levels).at_fault at kind
 none_taken levels before after (At TooNested at) h = absurd h

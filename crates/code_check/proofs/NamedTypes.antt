@@ -6,6 +6,7 @@ use Rattle.std.proofs.lemmas.List.{append-nil}
 use Rattle.core_terms.specs.Types.{Ty}
 use Rattle.core_terms.specs.declared.term.NamedType.{NamedType}
 use Rattle.core_terms.specs.declared.types.TyId.{TyId}
+use Rattle.core_terms.proofs.DecidedTypes.{zip_push}
 use Rattle.object_meaning.specs.ObjectBodies.{constructor_names, listed_at, named_tables}
 use Rattle.object_meaning.specs.Objects as meant
 use Rattle.object_meaning.specs.Objects.{ListedUnit, ListedBool, ListedInt, ListedText, ListedPair, ListedNamed, ListedAuth}
@@ -17,7 +18,7 @@ use Rattle.object_reader.specs.declared.object.ListedType.TheVariants.{Shaped, N
 use Rattle.object_reader.specs.declared.object.TypeShape.{TypeShape}
 use Rattle.object_reader.specs.declared.object.TypeShape.TheVariants.{UnitShape, BoolShape, IntShape, TextShape, PairShape, AuthShape}
 use Rattle.code_check.specs.ListedParts.{AreNamedOf, HasConstructorsAmong, IsConstructorAmong, IsNamedOf, constructor_lists}
-use Rattle.code_check.proofs.Zips.{all_mapped, at_item, taken_more, zip_push}
+use Rattle.code_check.proofs.Zips.{all_mapped, at_item, taken_more}
 
 -- the constructors of a named type are among those of the list
 pub own_constructors : (n : ℕ) (xs : List ListedType) (i : ℕ) (x : ListedType) (own : Vec ListedConstructor Global) (items : List ListedConstructor) → i < length xs → x ≡ slice_index_or xs i x

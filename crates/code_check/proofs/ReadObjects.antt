@@ -1,7 +1,6 @@
 -- Lemmas of what is read of bytes, and of its judgement.
 use Rattle.std.proofs.Common.{◌≡◌, ◌<◌, ◌≤◌, ℕ, suc, List, [], ◌∷◌, length, get_or, Result, Ok, Err, Option, None, option_map, sym, ap, ◌∙◌, subst, arith}
 use Rattle.core_terms.specs.ProgramSizes.{IsWithinLimits}
-use Rattle.core_terms.specs.Spelling.{AreBytes}
 use Rattle.core_terms.specs.Kinds.{kind_fault}
 use Rattle.core_terms.specs.Programs.{meaning}
 use Rattle.core_terms.specs.Terms as terms
@@ -25,10 +24,6 @@ use Rattle.code_check.specs.ObjectParts.{parts_program, spot_of}
 use Rattle.code_check.specs.declared.fault.ObjectFault.{ObjectFault}
 use Rattle.code_check.specs.declared.kinds.Spot.{Spot}
 use Rattle.code_check.specs.declared.parts.Parts.{Parts}
-
-pub are_bytes : (bytes : List ℕ) → ((i : ℕ) → get_or bytes i 0 < 256) → AreBytes bytes
-are_bytes [] h = tt
-are_bytes (b ∷ bytes) h = (h 0, are_bytes bytes (λ i. h (suc i)))
 
 -- a fault of reading is the first one
 pub read_faults : (bytes : List ℕ) (fault : ReadFault) → ReadsObject bytes (Err fault) → FaultsAs (accepting bytes) (of_read_fault fault)

@@ -6,18 +6,7 @@ use Rattle.core_terms.specs.ProgramTrees.{function_of}
 use Rattle.core_terms.specs.Terms.{Program}
 use Rattle.core_terms.specs.RoleShapes.{shape_test}
 use Rattle.core_terms.specs.declared.term.Function.{Function}
-use Rattle.core_terms.proofs.SameTypes.{same_sound}
-use Rattle.core_terms.proofs.TypingComplete.{same_self}
 use Rattle.object_meaning.specs.Accepting.{shape_fault_from}
-
--- two types are the same by the test where a test of numbers says so
-pub same_decides : (r : Bool) (s t : Ty) → (IsTrue r → s ≡ t) → (s ≡ t → IsTrue r) → r ≡ same_type s t
-same_decides true s t forth back = sym (subst (λ (u : Ty). same_type s u ≡ true) (forth refl) (same_self s))
-same_decides false s t forth back = by (same_type s t) (λ same. absurd (false≢true (back (same_sound s t same))))
-  where
-    by : (b : Bool) → (b ≡ true → ⊥) → false ≡ b
-    by true never = absurd (never refl)
-    by false never = refl
 
 module _ (P : Program) (types : List Ty) (functions : List Function) (first : Option ℕ) where
   -- the first fault is that of the functions from one on

@@ -6,7 +6,7 @@ use Rattle.core_terms.specs.Terms.{Expression, IntE, LocalE, ArithE, MatchE, Cal
 use Rattle.core_terms.specs.declared.term.Arith.TheVariants.{Add, Div}
 use Rattle.ideal_meaning.specs.Run.{Gives, Ends, Traps, IsOut, Overflow, DivZero}
 use Rattle.ideal_meaning.specs.Ideal.{Opened, ideal_mode}
-use Rattle.ideal_meaning.specs.Headline.{call_of}
+use Rattle.ideal_meaning.specs.Headline.{call_values}
 use Rattle.ideal_meaning.specs.Examples.{operands, arms_of, values, function, program, expression_program, bool_program, spin_program}
 use Rattle.core_terms.specs.Instructions.{Instruction, PushInt, Load, Jump, Return}
 use Rattle.core_terms.specs.Bodies.{Body}
@@ -19,16 +19,16 @@ abbrev pub called : Program → ℕ → Values → ℕ → Coded ⊥ (List Opene
 called P f args k = call_code_from (generated P) ideal_mode f args k []
 
 -- A recursion from 3 makes four calls, and the update that enters it one.
-pub put_makes_five_calls : called spin_program 2 (call_of (BoolV true) (PairV (IntV (pos 3)) (BoolV true))) 100 ≡ Ran (Gives (PairV (BoolV true) (IntV (pos 0))) 95 [])
+pub put_makes_five_calls : called spin_program 2 (call_values (BoolV true) (PairV (IntV (pos 3)) (BoolV true))) 100 ≡ Ran (Gives (PairV (BoolV true) (IntV (pos 0))) 95 [])
 put_makes_five_calls = refl
 
-pub put_is_out_with_four : called spin_program 2 (call_of (BoolV true) (PairV (IntV (pos 3)) (BoolV true))) 4 ≡ Ran (Ends IsOut 0 [])
+pub put_is_out_with_four : called spin_program 2 (call_values (BoolV true) (PairV (IntV (pos 3)) (BoolV true))) 4 ≡ Ran (Ends IsOut 0 [])
 put_is_out_with_four = refl
 
-pub flip_gives_both : called bool_program 2 (call_of (BoolV true) UnitV) 1 ≡ Ran (Gives (PairV (BoolV false) (BoolV true)) 0 (record { ty = BoolTy; value = BoolV true } ∷ []))
+pub flip_gives_both : called bool_program 2 (call_values (BoolV true) UnitV) 1 ≡ Ran (Gives (PairV (BoolV false) (BoolV true)) 0 (record { ty = BoolTy; value = BoolV true } ∷ []))
 flip_gives_both = refl
 
-pub over_traps : called bool_program 3 (call_of (BoolV true) UnitV) 1 ≡ Ran (Ends (Traps Overflow) 0 (record { ty = BoolTy; value = BoolV true } ∷ []))
+pub over_traps : called bool_program 3 (call_values (BoolV true) UnitV) 1 ≡ Ran (Ends (Traps Overflow) 0 (record { ty = BoolTy; value = BoolV true } ∷ []))
 over_traps = refl
 
 -- Arms without fields, with one and with two: 0, the field, and the first of the fields.

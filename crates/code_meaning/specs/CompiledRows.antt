@@ -8,7 +8,7 @@ use Rattle.core_terms.specs.Terms.{Function, Inner, Program, UnitE}
 use Rattle.core_terms.specs.Typing.{is_typed}
 use Rattle.ideal_meaning.specs.Run.{Gives, Ends, Traps, IsOut, Overflow}
 use Rattle.ideal_meaning.specs.Ideal.{ideal}
-use Rattle.ideal_meaning.specs.Headline.{call_of}
+use Rattle.ideal_meaning.specs.Headline.{call_values}
 use Rattle.ideal_meaning.specs.Examples.{function, program, values, bool_program, spin_program}
 use Rattle.core_terms.specs.GeneratedCode.{generated}
 
@@ -34,13 +34,13 @@ pub compiled_bool_is_typed : is_typed (compiled bool_program) ≡ true
 compiled_bool_is_typed = refl
 
 -- It does what the written program does: it gives the same, ends in the same way, and leaves the same fuel.
-pub put_gives_the_same : ideal (compiled spin_program) 2 (call_of (BoolV true) (PairV (IntV (pos 3)) (BoolV true))) 100 ≡ Gives (PairV (BoolV true) (IntV (pos 0))) 95 []
+pub put_gives_the_same : ideal (compiled spin_program) 2 (call_values (BoolV true) (PairV (IntV (pos 3)) (BoolV true))) 100 ≡ Gives (PairV (BoolV true) (IntV (pos 0))) 95 []
 put_gives_the_same = refl
 
-pub put_is_out_as_well : ideal (compiled spin_program) 2 (call_of (BoolV true) (PairV (IntV (pos 3)) (BoolV true))) 4 ≡ Ends IsOut 0 []
+pub put_is_out_as_well : ideal (compiled spin_program) 2 (call_values (BoolV true) (PairV (IntV (pos 3)) (BoolV true))) 4 ≡ Ends IsOut 0 []
 put_is_out_as_well = refl
 
-pub over_traps_as_well : ideal (compiled bool_program) 3 (call_of (BoolV true) UnitV) 1 ≡ Ends (Traps Overflow) 0 (record { ty = BoolTy; value = BoolV true } ∷ [])
+pub over_traps_as_well : ideal (compiled bool_program) 3 (call_values (BoolV true) UnitV) 1 ≡ Ends (Traps Overflow) 0 (record { ty = BoolTy; value = BoolV true } ∷ [])
 over_traps_as_well = refl
 
 -- a function from an int to an int, compiled to these instructions

@@ -18,7 +18,7 @@ use Rattle.core_terms.specs.declared.outcome.Outcome.TheVariants as told
 use Rattle.core_terms.specs.declared.byte_string.ByteString.{ByteString as Spelling}
 use Rattle.ideal_meaning.specs.Checked.{Accepted, Rejected}
 use Rattle.ideal_meaning.specs.Frames.{header}
-use Rattle.ideal_meaning.specs.Headline.{call_of}
+use Rattle.ideal_meaning.specs.Headline.{call_values}
 use Rattle.ideal_meaning.specs.Ideal as ideal
 use Rattle.ideal_meaning.specs.Ideal.{Outcome, honest_pieces, outcome, outcome_projection}
 use Rattle.ideal_meaning.specs.Run.{state_of}
@@ -60,17 +60,17 @@ module _ (hash : Hash) (is_hash : IsHash hash) (P : Program) (format : IsFormat 
   audits_truly (Ok (audited.Agrees told)) (o, agreed, spelled) =
       let is_true = agreement_is_true hash is_hash P format typed f kind t answer role reads state argument state_ideal argument_ideal k proof o agreed in
       let none = judges (split_of hash P f state argument k proof) (verdict_on_projections hash P t f state argument k proof) (Accepted o) agreed in
-      let here : o ≡ outcome_seen hash P f state argument k = is_true.1 ∙ ap (λ r. outcome_projection hash P r (outcome (ideal.ideal P f (call_of state argument) k))) (sym (result_is P f kind t answer role)) in (
+      let here : o ≡ outcome_seen hash P f state argument k = is_true.1 ∙ ap (λ r. outcome_projection hash P r (outcome (ideal.ideal P f (call_values state argument) k))) (sym (result_is P f kind t answer role)) in (
         subst (λ (o : Outcome). SpellsOutcome P (function_at P f).result o told) here spelled,
         is_true.0,
-        (no_split_is_found hash P.format (offered_in P.format proof) (honest_pieces hash P f (call_of state argument) k)).0 none.0,
+        (no_split_is_found hash P.format (offered_in P.format proof) (honest_pieces hash P f (call_values state argument) k)).0 none.0,
       )
   audits_truly (Ok (audited.Collision c)) told =
       let split = collides (split_of hash P f state argument k proof) (verdict_on_projections hash P t f state argument k proof) (split_told c) told in
-      (split_is_found hash P.format (offered_in P.format proof) (honest_pieces hash P f (call_of state argument) k) (split_told c)).0 split
+      (split_is_found hash P.format (offered_in P.format proof) (honest_pieces hash P f (call_values state argument) k) (split_told c)).0 split
   audits_truly (Ok (audited.Rejected cause)) told =
       let none = judges (split_of hash P f state argument k proof) (verdict_on_projections hash P t f state argument k proof) (Rejected (cause_told cause)) told in
-      (no_split_is_found hash P.format (offered_in P.format proof) (honest_pieces hash P f (call_of state argument) k)).0 none.0
+      (no_split_is_found hash P.format (offered_in P.format proof) (honest_pieces hash P f (call_values state argument) k)).0 none.0
   audits_truly (Err e) told = tt
 
 -- a call of the code
@@ -83,7 +83,7 @@ module _ (hash : Hash) (is_hash : IsHash hash) (p : Coded) (f : ℕ) (takes : Ta
   t = takes.1
 
   abbrev Run_audit : Audit
-  Run_audit = run_audit hash P f (outcome (ideal.ideal P f (call_of s a) k)) (state_of (ideal.ideal P f (call_of s a) k)) bytes
+  Run_audit = run_audit hash P f (outcome (ideal.ideal P f (call_values s a) k)) (state_of (ideal.ideal P f (call_values s a) k)) bytes
 
   s_ideal : IsIdeal P.types P.state s
   s_ideal = state_ideal P f takes hash nodes state argument s a call

@@ -12,7 +12,7 @@ use Rattle.core_terms.specs.Values.{Value, Values, AuthWithin, AuthWithinAll, Is
 use Rattle.ideal_meaning.specs.Agreement.{IsRefused, OffersOther, honest_so_far}
 use Rattle.ideal_meaning.specs.Checked.{Cause, Header, Rejected, Taking, Verdict, WrongPiece, before_all, cause_of, checked, judge, judged, opened, take_piece, with_argument, with_header, with_rest, with_state}
 use Rattle.ideal_meaning.specs.Frames.{End, NoMore, Offer, Offers, header, offered, offered_pieces}
-use Rattle.ideal_meaning.specs.Headline.{call_of}
+use Rattle.ideal_meaning.specs.Headline.{call_values}
 use Rattle.ideal_meaning.specs.Ideal.{Opened, Outcome, Piece, honest_bytes, honest_piece, honest_pieces, ideal, outcome, outcome_projection}
 use Rattle.ideal_meaning.specs.PieceForms.{as_spelled}
 use Rattle.ideal_meaning.specs.Run.{Refuses, Run, state_of}
@@ -283,10 +283,10 @@ module _ (hash : Hash) (is_hash : IsHash hash) (P : Program) (format : IsFormat 
   shape = parameters_are P f kind t answer role reads
 
   on_frames : (frames : List ℕ) (n : ℕ)
-      → unless_split (first_split hash P.format (offered_pieces (offered P.format.limit frames n [])) (honest_pieces hash P f (call_of state argument) k)) (judge hash P f (call_of s a) k frames n [])
-      ≡ audit_frames hash P.format (outcome_seen hash P f state argument k) (honest_pieces hash P f (call_of state argument) k) frames n []
+      → unless_split (first_split hash P.format (offered_pieces (offered P.format.limit frames n [])) (honest_pieces hash P f (call_values state argument) k)) (judge hash P f (call_values s a) k frames n [])
+      ≡ audit_frames hash P.format (outcome_seen hash P f state argument k) (honest_pieces hash P f (call_values state argument) k) frames n []
   on_frames frames n =
-      let args = call_of state argument in
+      let args = call_values state argument in
       let began = before_all (length frames) (offered P.format.limit frames n []) in
       let ideals : AreIdeal P.types (function_at P f).parameters args = subst (λ ts. AreIdeal P.types ts args) (sym shape) (state_ideal, (argument_ideal, tt)) in
       let fits : AllFit P (function_at P f).parameters args = subst (λ ts. AllFit P ts args) (sym shape) (state_fits, (argument_fits, tt)) in
@@ -294,12 +294,12 @@ module _ (hash : Hash) (is_hash : IsHash hash) (P : Program) (format : IsFormat 
       subst (λ ts. AuthWithinAll P.format.limit P.types ts args) (sym shape) (state_deep, (plain_within P.format.limit P.types t argument role.plain argument_ideal, tt)) in
       let one = judged_by_pieces hash is_hash P format typed f args k ideals fits deep began refl in
       subst (λ ts. unless_split (first_split hash P.format (offered_pieces (offered P.format.limit frames n [])) (honest_pieces hash P f args k)) (judge hash P f (projections hash P ts args) k frames n [])
-      ≡ audit_frames hash P.format (outcome_seen hash P f state argument k) (honest_pieces hash P f (call_of state argument) k) frames n []) shape one
+      ≡ audit_frames hash P.format (outcome_seen hash P f state argument k) (honest_pieces hash P f (call_values state argument) k) frames n []) shape one
 
   at_header : (h : Option ℕ)
-      → unless_split (first_split hash P.format (offered_behind P.format h bytes) (honest_pieces hash P f (call_of state argument) k)) (with_header hash P h f (call_of s a) k bytes)
-      ≡ audit_file hash P.format (outcome_seen hash P f state argument k) (honest_pieces hash P f (call_of state argument) k) h bytes
-  at_header None = ap (λ o. unless_split o (Rejected Header)) (none_offered hash P (outcome_seen hash P f state argument k) 0 (honest_pieces hash P f (call_of state argument) k))
+      → unless_split (first_split hash P.format (offered_behind P.format h bytes) (honest_pieces hash P f (call_values state argument) k)) (with_header hash P h f (call_values s a) k bytes)
+      ≡ audit_file hash P.format (outcome_seen hash P f state argument k) (honest_pieces hash P f (call_values state argument) k) h bytes
+  at_header None = ap (λ o. unless_split o (Rejected Header)) (none_offered hash P (outcome_seen hash P f state argument k) 0 (honest_pieces hash P f (call_values state argument) k))
   at_header (Some n) = on_frames (drop 6 bytes) n
 
   at_argument : ReadsBack hash P t argument → Judged (with_argument hash P s (read_at P t (spelling a)) f k bytes)

@@ -7,7 +7,7 @@ use Rattle.core_terms.specs.Formats.{Format}
 use Rattle.core_terms.specs.Projection.{digest_at}
 use Rattle.ideal_meaning.specs.Checked.{IsSplitAt}
 use Rattle.ideal_meaning.specs.Frames.{header, offered, offered_pieces}
-use Rattle.ideal_meaning.specs.Headline.{call_of}
+use Rattle.ideal_meaning.specs.Headline.{call_values}
 use Rattle.ideal_meaning.specs.Ideal.{Piece, honest_pieces}
 use Rattle.collision_audit.specs.AuditLaws.{EndsWithItsFrame}
 use Rattle.collision_audit.specs.Audits.{unless_split, verdict_on_projections}
@@ -72,7 +72,7 @@ module _ (format : Format) (front more other : List ℕ) (i n : ℕ) (good : hea
 
 pub ends_with_its_frame : EndsWithItsFrame
 ends_with_its_frame hash P t f state argument k front more other s shown left =
-    let honest = honest_pieces hash P f (call_of state argument) k in
+    let honest = honest_pieces hash P f (call_values state argument) k in
     let found = collides (split_of hash P f state argument k (front ++ more)) (verdict_on_projections hash P t f state argument k (front ++ more)) s shown in
     let split = (split_is_found hash P.format (offered_in P.format (front ++ more)) honest s).0 found in
     let head = behind_header (header P.format (front ++ more)) (λ n. left_behind (offered P.format.limit (drop 6 (front ++ more)) n []) s.place) (length more) left in

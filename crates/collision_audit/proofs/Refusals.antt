@@ -10,11 +10,11 @@ use Rattle.core_terms.specs.Spelling.{spelling}
 use Rattle.core_terms.specs.Terms.{Kind, Program, function_at}
 use Rattle.core_terms.specs.TypingRules.{IsTyped}
 use Rattle.core_terms.specs.Values.{Value, Values, IsIdeal, AreIdeal}
-use Rattle.ideal_meaning.specs.Agreement.{AllOpenedFit, Follows, IsRefused, OffersOther, Parts, TookHonest, honest_so_far}
+use Rattle.ideal_meaning.specs.Agreement.{AllOpenedFit, FollowsIdeal, IsRefused, OffersOther, Parts, TookHonest, honest_so_far}
 use Rattle.ideal_meaning.specs.Checked.{Cause, Rejected, Taking, Verdict, WrongPiece, before_all, checked, judge, judged, opened, take_piece, with_argument, with_header, with_state}
 use Rattle.ideal_meaning.specs.PieceForms.{as_spelled}
 use Rattle.ideal_meaning.specs.Frames.{NoMore, Offer, Offers, header, offered, offered_pieces}
-use Rattle.ideal_meaning.specs.Headline.{call_of}
+use Rattle.ideal_meaning.specs.Headline.{call_values}
 use Rattle.ideal_meaning.specs.Ideal.{Opened, Piece, honest_bytes, honest_piece, honest_pieces, ideal}
 use Rattle.ideal_meaning.specs.Run.{Ends, Gives, Opening, Refuses, Run, state_of}
 use Rattle.ideal_meaning.proofs.Headline.{agreement}
@@ -114,7 +114,7 @@ module _ (hash : Hash) (P : Program) where
   module _ (began : Taking) (run : Run ⊥ (List Opened) Value) (checked_run : Run Cause Taking Value) (i : ℕ) (differ : FirstDifferAt (offered_pieces began.more) (pieces_of (state_of run)) i)
       (none : first_split hash P.format (offered_pieces began.more) (pieces_of (state_of run)) ≡ None) where
     -- the checked run can't follow to the end
-    not_followed : (project : Value → Value) (run' : Run ⊥ (List Opened) Value) → FirstDifferAt (offered_pieces began.more) (pieces_of (state_of run')) i → Follows hash P project began run' checked_run → ⊥
+    not_followed : (project : Value → Value) (run' : Run ⊥ (List Opened) Value) → FirstDifferAt (offered_pieces began.more) (pieces_of (state_of run')) i → FollowsIdeal hash P project began run' checked_run → ⊥
     not_followed project (Gives v k seen) at (w, is, honest) = never seen (offered_pieces w.more) i (subst (λ ps. FirstDifferAt ps (pieces_of seen) i) honest.pieces at)
     not_followed project (Ends stop k seen) at (w, is, honest) = never seen (offered_pieces w.more) i (subst (λ ps. FirstDifferAt ps (pieces_of seen) i) honest.pieces at)
 
@@ -244,7 +244,7 @@ module _ (hash : Hash) (is_hash : IsHash hash) (P : Program) (format : IsFormat 
       run' : Run Cause Taking Value
       run' = checked hash P f (projections hash P (function_at P f).parameters args) k began
 
-      by : Follows hash P (projection hash P (function_at P f).result) began (ideal P f args k) run' ⊎ Parts hash P began (ideal P f args k) run' → IsRejected hash P began seen i (judged run')
+      by : FollowsIdeal hash P (projection hash P (function_at P f).result) began (ideal P f args k) run' ⊎ Parts hash P began (ideal P f args k) run' → IsRejected hash P began seen i (judged run')
       by (inl follows) = absurd (not_followed hash P began (ideal P f args k) run' i differ none (projection hash P (function_at P f).result) (ideal P f args k) differ follows)
       by (inr parts) = rejected hash P began (ideal P f args k) run' i differ none parts
 
@@ -265,7 +265,7 @@ module _ (hash : Hash) (is_hash : IsHash hash) (P : Program) (format : IsFormat 
     (state argument : Value) (state_ideal : IsIdeal P.types P.state state) (argument_ideal : IsIdeal P.types t argument)
     (k : ℕ) (bytes bytes' : List ℕ) (n i : ℕ) (good : header P.format bytes ≡ Some n) (good' : header P.format bytes' ≡ Some n)
     (same : take (suc i) (offered_in P.format bytes) ≡ take (suc i) (offered_in P.format bytes'))
-    (differ : FirstDifferAt (offered_in P.format bytes) (honest_pieces hash P f (call_of state argument) k) i)
+    (differ : FirstDifferAt (offered_in P.format bytes) (honest_pieces hash P f (call_values state argument) k) i)
     (none : split_of hash P f state argument k bytes ≡ None) where
   abbrev s : Value
   s = projection hash P P.state state
@@ -277,25 +277,25 @@ module _ (hash : Hash) (is_hash : IsHash hash) (P : Program) (format : IsFormat 
   offers : (bytes : List ℕ) → header P.format bytes ≡ Some n → offered_in P.format bytes ≡ offered_pieces (offered P.format.limit (drop 6 bytes) n [])
   offers bytes good = ap (λ h. offered_behind P.format h bytes) good
 
-  at_frames : Fits P P.state state → Fits P t argument → judge hash P f (call_of s a) k (drop 6 bytes) n [] ≡ judge hash P f (call_of s a) k (drop 6 bytes') n []
+  at_frames : Fits P P.state state → Fits P t argument → judge hash P f (call_values s a) k (drop 6 bytes) n [] ≡ judge hash P f (call_values s a) k (drop 6 bytes') n []
   at_frames state_fits argument_fits =
       let shape = parameters_are P f kind t answer role reads in
-      let ideals : AreIdeal P.types (function_at P f).parameters (call_of state argument) = subst (λ ts. AreIdeal P.types ts (call_of state argument)) (sym shape) (state_ideal, (argument_ideal, tt)) in
-      let fits : AllFit P (function_at P f).parameters (call_of state argument) = subst (λ ts. AllFit P ts (call_of state argument)) (sym shape) (state_fits, (argument_fits, tt)) in
-      let one = one_judgement hash is_hash P format typed f (call_of state argument) k ideals fits (drop 6 bytes) (drop 6 bytes') n i
+      let ideals : AreIdeal P.types (function_at P f).parameters (call_values state argument) = subst (λ ts. AreIdeal P.types ts (call_values state argument)) (sym shape) (state_ideal, (argument_ideal, tt)) in
+      let fits : AllFit P (function_at P f).parameters (call_values state argument) = subst (λ ts. AllFit P ts (call_values state argument)) (sym shape) (state_fits, (argument_fits, tt)) in
+      let one = one_judgement hash is_hash P format typed f (call_values state argument) k ideals fits (drop 6 bytes) (drop 6 bytes') n i
       (ap (take (suc i)) (sym (offers bytes good)) ∙ (same ∙ ap (take (suc i)) (offers bytes' good')))
-      (subst (λ ps. FirstDifferAt ps (honest_pieces hash P f (call_of state argument) k) i) (offers bytes good) differ)
-      (ap (λ ps. first_split hash P.format ps (honest_pieces hash P f (call_of state argument) k)) (sym (offers bytes good)) ∙ none) in
-      subst (λ ts. judge hash P f (projections hash P ts (call_of state argument)) k (drop 6 bytes) n [] ≡ judge hash P f (projections hash P ts (call_of state argument)) k (drop 6 bytes') n []) shape one
+      (subst (λ ps. FirstDifferAt ps (honest_pieces hash P f (call_values state argument) k) i) (offers bytes good) differ)
+      (ap (λ ps. first_split hash P.format ps (honest_pieces hash P f (call_values state argument) k)) (sym (offers bytes good)) ∙ none) in
+      subst (λ ts. judge hash P f (projections hash P ts (call_values state argument)) k (drop 6 bytes) n [] ≡ judge hash P f (projections hash P ts (call_values state argument)) k (drop 6 bytes') n []) shape one
 
   at_argument : Fits P P.state state → ReadsBack hash P t argument → with_argument hash P s (read_at P t (spelling a)) f k bytes ≡ with_argument hash P s (read_at P t (spelling a)) f k bytes'
   at_argument state_fits (inr refused) =
       ap (λ r. with_argument hash P s r f k bytes) refused.1.1 ∙ sym (ap (λ r. with_argument hash P s r f k bytes') refused.1.1)
   at_argument state_fits (inl back) =
       ap (λ r. with_argument hash P s r f k bytes) back.1.1
-      ∙ (ap (λ h. with_header hash P h f (call_of s a) k bytes) good
+      ∙ (ap (λ h. with_header hash P h f (call_values s a) k bytes) good
       ∙ (at_frames state_fits back.0
-      ∙ sym (ap (λ r. with_argument hash P s r f k bytes') back.1.1 ∙ ap (λ h. with_header hash P h f (call_of s a) k bytes') good')))
+      ∙ sym (ap (λ r. with_argument hash P s r f k bytes') back.1.1 ∙ ap (λ h. with_header hash P h f (call_values s a) k bytes') good')))
 
   at_state : ReadsBack hash P P.state state → verdict_on_projections hash P t f state argument k bytes ≡ verdict_on_projections hash P t f state argument k bytes'
   at_state (inr refused) = ap (λ r. with_state hash P t r (spelling a) f k bytes) refused.1.1 ∙ sym (ap (λ r. with_state hash P t r (spelling a) f k bytes') refused.1.1)
@@ -317,7 +317,7 @@ ends_with_the_difference hash is_hash P format typed f kind t answer role reads 
     same = same_pieces P.format front more other i head.0 head.1 head.2
 
     found : split_of hash P f state argument k (front ++ more) ≡ split_of hash P f state argument k (front ++ other)
-    found = found_alike hash P.format 0 i (offered_in P.format (front ++ more)) (offered_in P.format (front ++ other)) (honest_pieces hash P f (call_of state argument) k) same differ
+    found = found_alike hash P.format 0 i (offered_in P.format (front ++ more)) (offered_in P.format (front ++ other)) (honest_pieces hash P f (call_values state argument) k) same differ
 
     by : (o : Option Split) → split_of hash P f state argument k (front ++ more) ≡ o
         → unless_split (split_of hash P f state argument k (front ++ other)) (verdict_on_projections hash P t f state argument k (front ++ other))

@@ -8,7 +8,7 @@ use Rattle.core_terms.specs.Terms.{Kind, Program}
 use Rattle.core_terms.specs.TypingRules.{IsTyped}
 use Rattle.core_terms.specs.Values.{Value, IsIdeal}
 use Rattle.ideal_meaning.specs.Checked.{Accepted, IsSplitAt}
-use Rattle.ideal_meaning.specs.Headline.{call_of}
+use Rattle.ideal_meaning.specs.Headline.{call_values}
 use Rattle.ideal_meaning.specs.Ideal.{Outcome, Piece, bytes_of, honest_pieces, ideal, outcome, outcome_projection}
 use Rattle.collision_audit.specs.Audits.{Collides, IsOnProof, Judges, audit_of, verdict_on_projections}
 use Rattle.collision_audit.specs.Splits.{Split, IsSplit, first_split, offered_in, rest_behind}
@@ -26,8 +26,8 @@ NoSplitIsFound = (hash : Hash) (format : Format) (offered : List (List ℕ)) (ho
 -- The offered pieces are the honest ones, and the outcome of a result of type t is the projection of the ideal one.
 abbrev pub IsTrueOutcome : Hash → Program → ℕ → Ty → (state argument : Value) → ℕ → List ℕ → Outcome → Type 0
 IsTrueOutcome hash P f t state argument k bytes o =
-    (offered_in P.format bytes ≡ bytes_of (honest_pieces hash P f (call_of state argument) k))
-    × (o ≡ outcome_projection hash P t (outcome (ideal P f (call_of state argument) k)))
+    (offered_in P.format bytes ≡ bytes_of (honest_pieces hash P f (call_values state argument) k))
+    × (o ≡ outcome_projection hash P t (outcome (ideal P f (call_values state argument) k)))
 
 -- The headline, whole. For each well-typed program, query or update, ideal state and argument, fuel and bytes of a proof file, made
 -- by anybody: an outcome that the verifier accepts is the projection of the ideal one, or the audit of the same call shows a
@@ -40,7 +40,7 @@ AuditShowsCollision = (hash : Hash) → IsHash hash → (P : Program) → IsForm
     → verdict_on_projections hash P t f state argument k bytes ≡ Accepted o
     → IsTrueOutcome hash P f (role_result kind P.state answer) state argument k bytes o
     ⊎ ((s : Split) × (audit_of hash P t f state argument k bytes ≡ Collides s)
-    × IsSplit hash P.format (offered_in P.format bytes) (honest_pieces hash P f (call_of state argument) k) s)
+    × IsSplit hash P.format (offered_in P.format bytes) (honest_pieces hash P f (call_values state argument) k) s)
 
 -- An outcome on which the audit agrees is true.
 abbrev pub AgreementIsTrue : Type 0
@@ -79,6 +79,6 @@ EndsWithTheDifference = (hash : Hash) → IsHash hash → (P : Program) → IsFo
     → (f : ℕ) (kind : Kind) (t answer : Ty) → IsRole P f kind t answer → ReadsState kind
     → (state argument : Value) → IsIdeal P.types P.state state → IsIdeal P.types t argument
     → (k : ℕ) (front more other : List ℕ) (i : ℕ)
-    → FirstDifferAt (offered_in P.format (front ++ more)) (honest_pieces hash P f (call_of state argument) k) i
+    → FirstDifferAt (offered_in P.format (front ++ more)) (honest_pieces hash P f (call_values state argument) k) i
     → rest_behind P.format (front ++ more) i ≡ Some (length more)
     → audit_of hash P t f state argument k (front ++ other) ≡ audit_of hash P t f state argument k (front ++ more)

@@ -5,7 +5,7 @@ use Rattle.core_terms.specs.Formats.{Hash}
 use Rattle.core_terms.specs.Terms.{Program, function_at}
 use Rattle.core_terms.specs.Values.{Value}
 use Rattle.core_terms.specs.declared.cause.Cause.TheVariants as cause
-use Rattle.ideal_meaning.specs.Headline.{call_of}
+use Rattle.ideal_meaning.specs.Headline.{call_values}
 use Rattle.ideal_meaning.specs.Ideal.{bytes_of, honest_pieces}
 use Rattle.ideal_meaning.specs.SpelledOutcomes.{SpellsOutcome}
 use Rattle.collision_audit.specs.Splits.{IsSplit, offered_in, rest_behind}
@@ -22,10 +22,10 @@ use Rattle.collision_audit.specs.AuditAnswers.{HasNoSplit, split_told}
 abbrev pub AuditsTruly : Hash → Program → ℕ → (state argument : Value) → ℕ → List ℕ → Result Audited AuditFault → Type 0
 AuditsTruly hash P f state argument k proof (Ok (Agrees told)) =
     SpellsOutcome P (function_at P f).result (outcome_seen hash P f state argument k) told
-    × (offered_in P.format proof ≡ bytes_of (honest_pieces hash P f (call_of state argument) k))
+    × (offered_in P.format proof ≡ bytes_of (honest_pieces hash P f (call_values state argument) k))
     × HasNoSplit hash P f state argument k proof
 AuditsTruly hash P f state argument k proof (Ok (Collision c)) =
-    IsSplit hash P.format (offered_in P.format proof) (honest_pieces hash P f (call_of state argument) k) (split_told c)
+    IsSplit hash P.format (offered_in P.format proof) (honest_pieces hash P f (call_values state argument) k) (split_told c)
 AuditsTruly hash P f state argument k proof (Ok (Rejected cause)) = HasNoSplit hash P f state argument k proof
 AuditsTruly hash P f state argument k proof (Err e) = ⊤
 

@@ -5,7 +5,7 @@ use Rattle.core_terms.specs.Terms.{Program, function_at}
 use Rattle.core_terms.specs.Values.{Value}
 use Rattle.ideal_meaning.specs.Checked.{Rejected, WrongPiece, Header, cause_of, with_rest}
 use Rattle.ideal_meaning.specs.Frames.{Offer, NoMore, Offers, header, offered}
-use Rattle.ideal_meaning.specs.Headline.{call_of}
+use Rattle.ideal_meaning.specs.Headline.{call_values}
 use Rattle.ideal_meaning.specs.Ideal.{Opened, Outcome, Piece, honest_piece, ideal, outcome, outcome_projection}
 use Rattle.ideal_meaning.specs.Run.{state_of}
 use Rattle.collision_audit.specs.Audits.{Audit, Collides, Judges}
@@ -37,7 +37,7 @@ module _ (hash : Hash) (format : Format) where
 
 -- the outcome of a call, as a verifier sees it
 abbrev pub outcome_seen : Hash → Program → ℕ → (state argument : Value) → ℕ → Outcome
-outcome_seen hash P f state argument k = outcome_projection hash P (function_at P f).result (outcome (ideal P f (call_of state argument) k))
+outcome_seen hash P f state argument k = outcome_projection hash P (function_at P f).result (outcome (ideal P f (call_values state argument) k))
 
 -- the audit of the bytes of a proof file, for a run of function f that came to the ideal outcome o and opened these values
 abbrev pub run_audit : Hash → Program → ℕ → Outcome → List Opened → List ℕ → Audit
@@ -47,5 +47,5 @@ run_audit hash P f o seen bytes =
 -- the same for a call of function f with fuel k on an ideal state and argument
 abbrev pub audit_by_pieces : Hash → Program → ℕ → (state argument : Value) → ℕ → List ℕ → Audit
 audit_by_pieces hash P f state argument k bytes =
-    let run = ideal P f (call_of state argument) k in
+    let run = ideal P f (call_values state argument) k in
     run_audit hash P f (outcome run) (state_of run) bytes

@@ -5,7 +5,7 @@ use Rattle.core_terms.specs.Terms.{Program}
 use Rattle.core_terms.specs.Values.{Value}
 use Rattle.ideal_meaning.specs.Checked.{IsSplitAt}
 use Rattle.ideal_meaning.specs.Frames.{Offer, NoMore, Offers, header, offered, offered_pieces}
-use Rattle.ideal_meaning.specs.Headline.{call_of}
+use Rattle.ideal_meaning.specs.Headline.{call_values}
 use Rattle.ideal_meaning.specs.Ideal.{Piece, bytes_of, honest_pieces}
 
 -- a place at which the two pieces differ and have one digest, these pieces, and the fingerprint that the digest tells, where it tells one
@@ -51,7 +51,7 @@ offered_in format bytes = offered_behind format (header format bytes) bytes
 
 -- The split of the pieces that a proof file offers for a call of function f with fuel k, and of the honest ones, where there is one.
 abbrev pub split_of : Hash → Program → ℕ → (state argument : Value) → ℕ → List ℕ → Option Split
-split_of hash P f state argument k bytes = first_split hash P.format (offered_in P.format bytes) (honest_pieces hash P f (call_of state argument) k)
+split_of hash P f state argument k bytes = first_split hash P.format (offered_in P.format bytes) (honest_pieces hash P f (call_values state argument) k)
 
 -- how many bytes are left behind the offered piece at a place, where there is one
 abbrev pub left_behind : Offer → (place : ℕ) → Option ℕ

@@ -41,3 +41,6 @@ pub mod Constructors
 mod LimitRows
 -- for the crates above: what terms stand for, by their forms
 pub mod TermViews
+-- for the crates above: lists of bytes, and of items that belong together
+pub mod ByteLists
+pub mod DecidedTypes

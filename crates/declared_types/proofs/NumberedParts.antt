@@ -7,6 +7,7 @@ use Rattle.core_terms.specs.declared.format.Format.{Format}
 use Rattle.core_terms.specs.declared.types.TyId.{TyId}
 use Rattle.core_terms.specs.declared.term.Constructor.{Constructor}
 use Rattle.core_terms.specs.declared.term.NamedType.{NamedType}
+use Rattle.core_terms.proofs.DecidedTypes.{zip_push}
 use Rattle.auth_syntax.specs.Syntax.{ConstructorDeclaration, DeclarationSyntax, FunctionDeclaration, FunctionSyntax, StateDeclaration, TypeDeclaration}
 use Rattle.auth_syntax.specs.Trees.{constructor_of, constructors_of, declaration_of, function_of, name_of}
 use Rattle.lexemes.specs.declared.place.Place.{Place}
@@ -20,14 +21,6 @@ use Rattle.declared_types.specs.OverTypes.{AreNumbers, Grows, functions_written}
 use Rattle.declared_types.specs.WrittenTypes.{functions_in, type_meant}
 use Rattle.declared_types.specs.declared.scope.Head.{Head}
 use Rattle.declared_types.proofs.TypeNumbers.{number_stays, numbers_grow, numbers_push}
-
--- one pair more
-zip_push : {A B : Type 0} (R : A → B → Type 0) (xs : List A) (ys : List B) (x : A) (y : B) → AllZip R xs ys → R x y
-    → AllZip R (xs ++ x ∷ []) (ys ++ y ∷ [])
-zip_push R [] [] x y all one = (one, tt)
-zip_push R [] (z ∷ ys) x y all one = absurd all
-zip_push R (z ∷ xs) [] x y all one = absurd all
-zip_push R (w ∷ xs) (z ∷ ys) x y all one = (all.0, zip_push R xs ys x y all.1 one)
 
 zip_more : {A B : Type 0} (R S : A → B → Type 0) → ((x : A) (y : B) → R x y → S x y) → (xs : List A) (ys : List B) → AllZip R xs ys → AllZip S xs ys
 zip_more R S more [] [] all = tt

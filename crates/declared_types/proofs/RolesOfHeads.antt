@@ -9,8 +9,6 @@ use Rattle.core_terms.specs.Roles.{has_auth}
 use Rattle.core_terms.specs.ProgramTrees.{types_at}
 use Rattle.core_terms.specs.TypeTables.{type_at}
 use Rattle.core_terms.specs.declared.types.TyId.{TyId}
-use Rattle.core_terms.proofs.SameTypes.{same_sound}
-use Rattle.core_terms.proofs.TypingComplete.{same_self}
 use Rattle.auth_syntax.specs.Syntax.{FunctionSyntax, InitSyntax, ParameterSyntax, QuerySyntax, UpdateSyntax, place_of_type}
 use Rattle.auth_syntax.specs.Trees as written
 use Rattle.lexemes.specs.declared.place.Place.{Place}
@@ -193,15 +191,6 @@ module _ (types : List Ty) (table : Table) (state : Ty) (head : Head) where
       by (p ∷ []) other = refl
       by (p ∷ q ∷ []) other = absurd (other refl)
       by (p ∷ q ∷ r ∷ ps) other = refl
-
--- two types are the same by the test where a test of numbers says so
-pub same_decides : (r : Bool) (s t : Ty) → (IsTrue r → s ≡ t) → (s ≡ t → IsTrue r) → r ≡ same_type s t
-same_decides true s t forth back = sym (subst (λ (u : Ty). same_type s u ≡ true) (forth refl) (same_self s))
-same_decides false s t forth back = by (same_type s t) (λ same. absurd (false≢true (back (same_sound s t same))))
-  where
-    by : (b : Bool) → (b ≡ true → ⊥) → false ≡ b
-    by true never = absurd (never refl)
-    by false never = refl
 
 -- the place of the last parameter
 pub last_place_is : (at : Place) (ps : List Parameter) (p : Parameter) → Some p ≡ slice_get ps (length ps - 1)

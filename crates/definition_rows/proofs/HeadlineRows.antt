@@ -4,16 +4,16 @@ use Rattle.core_terms.specs.Types.{UnitTy}
 use Rattle.core_terms.specs.Values.{UnitV}
 use Rattle.ideal_meaning.specs.Run.{Overflow}
 use Rattle.ideal_meaning.specs.Ideal.{Done, Trapped}
-use Rattle.ideal_meaning.specs.Headline.{TrueOrSplit, call_of}
+use Rattle.ideal_meaning.specs.Headline.{TrueOrSplit, call_values}
 use Rattle.ideal_meaning.specs.Examples.{toy, unit_program}
 use Rattle.definition_rows.specs.HeadlineRows.{HeadlineRows}
 
-no_other_outcome : TrueOrSplit toy unit_program 1 UnitTy (call_of UnitV UnitV) 1 ([] ∷ []) (Trapped Overflow) → ⊥
+no_other_outcome : TrueOrSplit toy unit_program 1 UnitTy (call_values UnitV UnitV) 1 ([] ∷ []) (Trapped Overflow) → ⊥
 no_other_outcome (inl (pieces, told)) = let k : Trapped Overflow ≡ Done UnitV = told in absurd (cc)
 no_other_outcome (inr (zero, h)) = h.0 refl
 no_other_outcome (inr (suc i, h)) = h.1
 
-no_further_piece : TrueOrSplit toy unit_program 1 UnitTy (call_of UnitV UnitV) 1 ([] ∷ [] ∷ []) (Done UnitV) → ⊥
+no_further_piece : TrueOrSplit toy unit_program 1 UnitTy (call_values UnitV UnitV) 1 ([] ∷ [] ∷ []) (Done UnitV) → ⊥
 no_further_piece (inl (pieces, told)) = let k : 2 ≡ 1 = ap length pieces in absurd (omega (arith, k))
 no_further_piece (inr (zero, h)) = h.0 refl
 no_further_piece (inr (suc i, h)) = h.1

@@ -27,8 +27,8 @@ abbrev pub of_two_sizes : Value
 of_two_sizes = ItemsV (AndV (TextV []) (AndV (TextV (0x61 ∷ [])) NoV))
 
 -- where the locals are an array of two texts, an int, a bool, a text, and an array of 65 texts
-abbrev pub Takes : Expression → Ty → Type 0
-Takes e t = HasType small (VecTy 2 TextTy ∷ IntTy ∷ BoolTy ∷ TextTy ∷ VecTy 65 TextTy ∷ []) e t
+abbrev pub IsWellTyped : Expression → Ty → Type 0
+IsWellTyped e t = HasType small (VecTy 2 TextTy ∷ IntTy ∷ BoolTy ∷ TextTy ∷ VecTy 65 TextTy ∷ []) e t
 
 pub record ArrayRows : Type 0 where
   -- each element is shallow, the deepest one counts, and an authenticated one has to be within the limits wherever it stands
@@ -39,13 +39,13 @@ pub record ArrayRows : Type 0 where
   -- operations are on arrays of 1 to 64 elements
   pub lengths_of_operations : (t : Ty) → (is_operation (VecFill 0 t) ≡ false) × (is_operation (VecFill 64 t) ≡ true) × (is_operation (VecFill 65 t) ≡ false)
       × (is_operation (VecGet 64 t) ≡ true) × (is_operation (VecGet 65 t) ≡ false) × (is_operation (VecPut 64 t) ≡ true) × (is_operation (VecPut 65 t) ≡ false)
-  pub fill_has_its_type : Takes (OperateE (VecFill 2 TextTy) (AndE (LocalE 3) NoE)) (VecTy 2 TextTy)
-  pub element_has_its_type : Takes (OperateE (VecGet 2 TextTy) (AndE (LocalE 0) (AndE (LocalE 1) NoE))) TextTy
-  pub replacement_has_its_type : Takes (OperateE (VecPut 2 TextTy) (AndE (LocalE 0) (AndE (LocalE 1) (AndE (LocalE 3) NoE)))) (VecTy 2 TextTy)
-  pub element_is_no_array : Takes (OperateE (VecGet 2 TextTy) (AndE (LocalE 0) (AndE (LocalE 1) NoE))) (VecTy 2 TextTy) → ⊥
-  pub no_element_of_65 : Takes (OperateE (VecGet 65 TextTy) (AndE (LocalE 4) (AndE (LocalE 1) NoE))) TextTy → ⊥
-  pub no_element_at_a_bool : Takes (OperateE (VecGet 2 TextTy) (AndE (LocalE 0) (AndE (LocalE 2) NoE))) TextTy → ⊥
-  pub no_replacement_is_missing : Takes (OperateE (VecPut 2 TextTy) (AndE (LocalE 0) (AndE (LocalE 1) NoE))) (VecTy 2 TextTy) → ⊥
+  pub fill_has_its_type : IsWellTyped (OperateE (VecFill 2 TextTy) (AndE (LocalE 3) NoE)) (VecTy 2 TextTy)
+  pub element_has_its_type : IsWellTyped (OperateE (VecGet 2 TextTy) (AndE (LocalE 0) (AndE (LocalE 1) NoE))) TextTy
+  pub replacement_has_its_type : IsWellTyped (OperateE (VecPut 2 TextTy) (AndE (LocalE 0) (AndE (LocalE 1) (AndE (LocalE 3) NoE)))) (VecTy 2 TextTy)
+  pub element_is_no_array : IsWellTyped (OperateE (VecGet 2 TextTy) (AndE (LocalE 0) (AndE (LocalE 1) NoE))) (VecTy 2 TextTy) → ⊥
+  pub no_element_of_65 : IsWellTyped (OperateE (VecGet 65 TextTy) (AndE (LocalE 4) (AndE (LocalE 1) NoE))) TextTy → ⊥
+  pub no_element_at_a_bool : IsWellTyped (OperateE (VecGet 2 TextTy) (AndE (LocalE 0) (AndE (LocalE 2) NoE))) TextTy → ⊥
+  pub no_replacement_is_missing : IsWellTyped (OperateE (VecPut 2 TextTy) (AndE (LocalE 0) (AndE (LocalE 1) NoE))) (VecTy 2 TextTy) → ⊥
   pub locals_of_an_operand : locals_in two_constructors 0 (OperateE (VecFill 2 UnitTy) (AndE bind_two NoE)) ≡ 2
   -- an `auth` stands in an array where it stands in the elements' type, and there is its mark
   pub auth_in_an_array : (has_auth [] (VecTy 2 (AuthTy IntTy)) ≡ true) × (has_auth [] (VecTy 2 IntTy) ≡ false)

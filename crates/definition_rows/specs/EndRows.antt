@@ -12,7 +12,7 @@ use Rattle.ideal_meaning.specs.Run.{Run, Gives, Ends, Trap, Traps, IsOut, Overfl
 use Rattle.ideal_meaning.specs.Ideal.{Opened, Trapped, Out, ideal, outcome, outcome_projection}
 use Rattle.ideal_meaning.specs.Agreement.{as_checked}
 use Rattle.ideal_meaning.specs.Table.{divides, made}
-use Rattle.ideal_meaning.specs.Headline.{call_of}
+use Rattle.ideal_meaning.specs.Headline.{call_values}
 use Rattle.ideal_meaning.specs.Examples.{bool_program, function, operands, program}
 use Rattle.ideal_meaning.specs.OperationRows.{choices}
 
@@ -40,7 +40,7 @@ pub record EndRows : Type 0 where
   pub both_calls_are_made : ideal calling_twice 1 NoV 3 ≡ Gives (PairV UnitV UnitV) 0 []
   pub second_call_is_out : ideal calling_twice 1 NoV 2 ≡ Ends IsOut 0 []
   -- a trap and the want of fuel are outcomes, which are their own projections and the same in a checked run
-  pub outcome_of_a_trap : outcome (ideal bool_program 3 (call_of (BoolV true) UnitV) 1) ≡ Trapped Overflow
+  pub outcome_of_a_trap : outcome (ideal bool_program 3 (call_values (BoolV true) UnitV) 1) ≡ Trapped Overflow
   pub trap_is_its_projection : (hash : Hash) (t : Ty) (trap : Trap) → outcome_projection hash bool_program t (Trapped trap) ≡ Trapped trap
   pub out_is_its_projection : (hash : Hash) (t : Ty) → outcome_projection hash bool_program t Out ≡ Out
   pub trap_is_checked : (trap : Trap) → as_checked (Traps trap) ≡ Traps trap

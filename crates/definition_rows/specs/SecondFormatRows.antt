@@ -10,7 +10,7 @@ use Rattle.core_terms.specs.Values.{Value, UnitV, BoolV, IntV, PairV}
 use Rattle.ideal_meaning.specs.Run.{Run, Gives, Ends, Traps, TooBig}
 use Rattle.ideal_meaning.specs.Ideal.{Done, Opened, ideal, honest_pieces}
 use Rattle.ideal_meaning.specs.Checked.{Header, Verdict, WrongPiece, Accepted, Rejected, verdict, IsSplitAt}
-use Rattle.ideal_meaning.specs.Headline.{call_of}
+use Rattle.ideal_meaning.specs.Headline.{call_values}
 use Rattle.ideal_meaning.specs.Examples.{unit_program, pair_program, expression_program, values}
 use Rattle.ideal_meaning.specs.ExampleProofs.{file}
 use Rattle.ideal_meaning.specs.ExampleRuns.{doublings}
@@ -45,4 +45,4 @@ pub record SecondFormatRows : Type 0 where
   pub eighteen_doublings_are_too_big : doubled_second 18 ≡ Ends (Traps TooBig) 0 []
   -- two pieces that differ behind one fingerprint and have one digest split; the same pieces have one at another type too, by this hash
   pub pieces_split : IsSplitAt (digest_at counting (in_second pair_program)) ((0 ∷ 1 ∷ []) ∷ [])
-      (honest_pieces counting (in_second pair_program) 1 (call_of (PairV (BoolV true) (BoolV false)) UnitV) 1) 0
+      (honest_pieces counting (in_second pair_program) 1 (call_values (PairV (BoolV true) (BoolV false)) UnitV) 1) 0

@@ -11,7 +11,7 @@ use Rattle.ideal_meaning.specs.Run.{Ends, Rejects, Opens}
 use Rattle.ideal_meaning.specs.Ideal.{Done, Piece, honest_pieces}
 use Rattle.ideal_meaning.specs.Frames.{NoByte, NoMore, Offers, Use, frame_bytes}
 use Rattle.ideal_meaning.specs.Checked.{Short, Cut, BadPiece, BadState, BadArgument, Accepted, Rejected, before_all, checked, checked_mode, take_piece, verdict, verdict_on, IsSplitAt}
-use Rattle.ideal_meaning.specs.Headline.{call_of}
+use Rattle.ideal_meaning.specs.Headline.{call_values}
 use Rattle.ideal_meaning.specs.Examples.{toy, unit_program, bool_program, two_bools_program, spin_program, pair_program}
 use Rattle.ideal_meaning.specs.ExampleProofs.{file, on_open}
 
@@ -31,7 +31,7 @@ pub record VerdictRows : Type 0 where
   pub second_part_of_the_argument_is_bad : (hash : Hash) → verdict hash spin_program (PairTy IntTy BoolTy) 2 (toy []) (replicate 8 0 ++ 2 ∷ []) 1 [] ≡ BadArgument 8
   -- a rejected run keeps the fuel that is left
   pub rejection_keeps_its_fuel : (hash : Hash)
-      → checked hash unit_program 1 (call_of (DigestV []) UnitV) 7 (before_all 0 (NoMore NoByte)) ≡ Ends (Rejects (Short 0)) 6 (before_all 0 (NoMore NoByte))
+      → checked hash unit_program 1 (call_values (DigestV []) UnitV) 7 (before_all 0 (NoMore NoByte)) ≡ Ends (Rejects (Short 0)) 6 (before_all 0 (NoMore NoByte))
   -- the number of the piece that is wanting is told
   pub second_piece_is_short : verdict toy bool_program UnitTy 1 (toy (1 ∷ [])) [] 1 (file (0 ∷ 0 ∷ 0 ∷ 0 ∷ 0 ∷ 0 ∷ 1 ∷ 1 ∷ [])) ≡ Rejected (Short 1)
   -- the number of a piece comes before the offset in it
@@ -52,4 +52,4 @@ pub record VerdictRows : Type 0 where
   pub no_split_of_equal_pieces : IsSplitAt (digest_at toy pair_program) ((1 ∷ 0 ∷ []) ∷ []) (honest ∷ []) 0 → ⊥
   -- a piece that differs and has another digest splits nothing
   pub other_digest_splits_nothing : IsSplitAt (digest_at toy pair_program) ((0 ∷ 0 ∷ []) ∷ [])
-      (honest_pieces toy pair_program 1 (call_of (PairV (BoolV true) (BoolV false)) UnitV) 1) 0 → ⊥
+      (honest_pieces toy pair_program 1 (call_values (PairV (BoolV true) (BoolV false)) UnitV) 1) 0 → ⊥

@@ -18,7 +18,7 @@ use Rattle.ideal_meaning.specs.CodeTypes.{IsOf, AreOf, Goes}
 use Rattle.ideal_meaning.specs.ModeKinds.{digest_kind}
 use Rattle.ideal_meaning.specs.Fetched.{Got, TrueFromOrSplit, answered, asking, ended, fetched, from_argument, from_state, verdict_from}
 use Rattle.ideal_meaning.specs.Frames.{offered_pieces}
-use Rattle.ideal_meaning.specs.Headline.{call_of}
+use Rattle.ideal_meaning.specs.Headline.{call_values}
 use Rattle.ideal_meaning.specs.PieceForms.{as_whole, IsOfWhole}
 use Rattle.ideal_meaning.proofs.Coded.{coded_found}
 use Rattle.ideal_meaning.proofs.Fetching.{fetch_companion, fetch_headline}
@@ -50,23 +50,23 @@ module _ (hash : Hash) (is_hash : IsHash hash) (P : Program) (format : IsFormat 
   a = projection hash P t argument
 
   abbrev run_with : List Got → RunOf Value
-  run_with answers = fetched hash P f (call_of s a) k (asking answers)
+  run_with answers = fetched hash P f (call_values s a) k (asking answers)
 
   abbrev Says : List Got → List (List ℕ) → Type 0
-  Says answers more = TrueFromOrSplit hash P f (role_result kind P.state answer) (call_of state argument) k (offered_pieces (answered answers)) more o
+  Says answers more = TrueFromOrSplit hash P f (role_result kind P.state answer) (call_values state argument) k (offered_pieces (answered answers)) more o
 
   -- the code of a typed program is never stuck
-  of_types : (ts : List Ty) → ts ≡ (function_at P f).parameters → AreOf P.types digest_kind ts (call_of s a)
+  of_types : (ts : List Ty) → ts ≡ (function_at P f).parameters → AreOf P.types digest_kind ts (call_values s a)
   of_types ts same =
-      subst (λ ts. AreOf P.types digest_kind ts (call_of s a)) (sym (same ∙ parameters_are P f kind t answer role reads))
-      (shallows_are P.types (P.state ∷ t ∷ []) (call_of s a) (projections_shallow hash is_hash P format (P.state ∷ t ∷ []) (call_of state argument) (state_ideal, (argument_ideal, tt))))
+      subst (λ ts. AreOf P.types digest_kind ts (call_values s a)) (sym (same ∙ parameters_are P f kind t answer role reads))
+      (shallows_are P.types (P.state ∷ t ∷ []) (call_values s a) (projections_shallow hash is_hash P format (P.state ∷ t ∷ []) (call_values state argument) (state_ideal, (argument_ideal, tt))))
 
-  whole_as : (o : Option (List (List Instruction))) → IsTypedAs P o → IsWholeAs hash P get o f (call_of s a) k
+  whole_as : (o : Option (List (List Instruction))) → IsTypedAs P o → IsWholeAs hash P get o f (call_values s a) k
   whole_as None h = tt
   whole_as (Some codes) h = λ w is.
       let g = code_at (body_of P codes) f in
       subst (Goes (IsOf P.types digest_kind g.result)) is
-      (never Cause Taking (body_of P codes) (checked_mode_as hash P (as_whole hash P)) digest_kind (fetched_laws hash P) h.accepted k f (call_of s a) k w
+      (never Cause Taking (body_of P codes) (checked_mode_as hash P (as_whole hash P)) digest_kind (fetched_laws hash P) h.accepted k f (call_values s a) k w
       (of_types g.parameters (coded_found P codes h.each f).0))
 
   module _ (accepted : verdict_over hash P get t f (spelling s) (spelling a) k ≡ Accepted o) where
@@ -80,7 +80,7 @@ module _ (hash : Hash) (is_hash : IsHash hash) (P : Program) (format : IsFormat 
     by_argument : (rest : List ℕ) (end : ℕ) → read_at P P.state (spelling s) ≡ Good s rest end → from_argument hash P s (read_at P t (spelling a)) f k g.answers ≡ Accepted o
         → ReadsBack hash P t argument → offered_pieces (state_of (run_with g.answers)).more ≡ []
     by_argument rest end state_is is (inl back) =
-        none_left hash P get (IsWhole hash P get f (call_of s a) k) (whole_as P.code typed) o (run_with g.answers) (sym (ap (λ r. from_argument hash P s r f k g.answers) back.1.1) ∙ is) (g.all s a rest _ end _ state_is back.1.1)
+        none_left hash P get (IsWhole hash P get f (call_values s a) k) (whole_as P.code typed) o (run_with g.answers) (sym (ap (λ r. from_argument hash P s r f k g.answers) back.1.1) ∙ is) (g.all s a rest _ end _ state_is back.1.1)
     by_argument rest end state_is is (inr refused) = let e = sym (ap (λ r. from_argument hash P s r f k g.answers) refused.1.1) ∙ is in absurd (cc (e))
 
     by_state : ReadsBack hash P P.state state → offered_pieces (state_of (run_with g.answers)).more ≡ []

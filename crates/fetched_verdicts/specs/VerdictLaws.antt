@@ -13,7 +13,7 @@ use Rattle.ideal_meaning.specs.Checked.{Accepted, IsSplitAt}
 use Rattle.ideal_meaning.specs.Fetched.{Got, HoldsAll, TrueFromOrSplit, answered, verdict_from, whole_pieces}
 use Rattle.ideal_meaning.specs.FetchLaws.{IsStore}
 use Rattle.ideal_meaning.specs.Frames.{offered_pieces}
-use Rattle.ideal_meaning.specs.Headline.{call_of}
+use Rattle.ideal_meaning.specs.Headline.{call_values}
 use Rattle.ideal_meaning.specs.Ideal.{Outcome, ideal, outcome, outcome_projection}
 use Rattle.ideal_meaning.specs.PieceForms.{IsOfWhole}
 use Rattle.ideal_meaning.specs.Run.{state_of}
@@ -38,7 +38,7 @@ TellsTheTruth = (hash : Hash) → IsHash hash → (P : Program) → IsFormat P.f
     → (k : ℕ) (get : List ℕ → Got) (o : Outcome)
     → verdict_over hash P get t f (spelling (projection hash P P.state state)) (spelling (projection hash P t argument)) k ≡ Accepted o
     → (answers : List Got) × AreAnswersOf hash get answers (Accepted o)
-    × TrueFromOrSplit hash P f (role_result kind P.state answer) (call_of state argument) k (offered_pieces (answered answers)) [] o
+    × TrueFromOrSplit hash P f (role_result kind P.state answer) (call_values state argument) k (offered_pieces (answered answers)) [] o
 
 -- The companion. Over a store that has a piece with the digest of each honest one, and gives by it: where the state, the argument and each value
 -- that the ideal run opens are within the limits, the verdict accepts the projection of the ideal outcome; or of the answers that the store
@@ -47,9 +47,9 @@ abbrev pub AcceptsTheTruth : Type 0
 AcceptsTheTruth = (hash : Hash) → IsHash hash → (P : Program) → IsFormat P.format → IsTyped P → IsOfWhole hash P
     → (f : ℕ) (kind : Kind) (t answer : Ty) → IsRole P f kind t answer → ReadsState kind
     → (state argument : Value) → IsIdeal P.types P.state state → IsIdeal P.types t argument → Fits P P.state state → Fits P t argument
-    → (k : ℕ) → AllOpenedFit P (state_of (ideal P f (call_of state argument) k))
-    → (get : List ℕ → Got) → IsStore hash get → HoldsAll hash P get (state_of (ideal P f (call_of state argument) k))
+    → (k : ℕ) → AllOpenedFit P (state_of (ideal P f (call_values state argument) k))
+    → (get : List ℕ → Got) → IsStore hash get → HoldsAll hash P get (state_of (ideal P f (call_values state argument) k))
     → let verdict = verdict_over hash P get t f (spelling (projection hash P P.state state)) (spelling (projection hash P t argument)) k in
-    (verdict ≡ Accepted (outcome_projection hash P (role_result kind P.state answer) (outcome (ideal P f (call_of state argument) k))))
+    (verdict ≡ Accepted (outcome_projection hash P (role_result kind P.state answer) (outcome (ideal P f (call_values state argument) k))))
     ⊎ ((answers : List Got) × AreAnswersOf hash get answers verdict
-    × ((i : ℕ) × IsSplitAt (λ t bytes. hash bytes) (offered_pieces (answered answers)) (whole_pieces hash P f (call_of state argument) k) i))
+    × ((i : ℕ) × IsSplitAt (λ t bytes. hash bytes) (offered_pieces (answered answers)) (whole_pieces hash P f (call_values state argument) k) i))

@@ -1,7 +1,9 @@
 -- What `shallow` stores for a client of `prove`: each step of its work goes on.
 use Rattle.std.proofs.Common.{Option, Some, refl, ◌∙◌}
 use Rattle.core_terms.specs.Values.{Value}
-use Rattle.file_commands.specs.Answer.{Answer, state_answer, with_image_file}
+use Rattle.file_commands.specs.OutcomeAnswers.{state_answer}
+use Rattle.file_commands.specs.FileInputs.{with_image_file}
+use Rattle.file_commands.specs.AnswerForms.{Answer}
 use Rattle.file_commands.specs.FueledRoles.{NamedProgram}
 use Rattle.file_commands.specs.ShallowLaws.{ShallowStoresTheClientsState}
 use Rattle.file_commands.proofs.GoingOn.{program_goes, state_goes}

@@ -10,9 +10,11 @@ use Rattle.value_store.specs.Nodes.{Node}
 use Rattle.value_store.specs.Standing.{AllStandFor, StandsFor}
 use Rattle.value_store.specs.Stores.{nodes_in}
 use Rattle.printed_lines.specs.declared.refusal.Refusal.TheVariants as refusal
-use Rattle.file_commands.specs.Answer.{Answer, with_literal, with_passed}
+use Rattle.file_commands.specs.RoleInputs.{with_passed}
+use Rattle.file_commands.specs.FileInputs.{with_literal}
+use Rattle.file_commands.specs.AnswerForms.{Answer}
 use Rattle.file_commands.specs.CallsInStores.{HoldsCall}
-use Rattle.file_commands.specs.Halting.{GoesOnFor, HaltsAs, InHand}
+use Rattle.file_commands.specs.Halting.{StepGivesFor, HaltsAs, InHand}
 use Rattle.file_commands.specs.IdealCalls as meant
 use Rattle.file_commands.specs.IdealCalls.{values_called}
 use Rattle.file_commands.specs.ReadPrograms.{named_of}
@@ -57,9 +59,9 @@ init_stands p called is text nodes r put =
 
 -- what halts the reading of the argument halts an init
 pub init_halts : (p : Program) (called : CalledRole) → IsCalled Init p called → (text : List ℕ) {T : Type 0} (Stands : T → Value → Type 0) (halt : Halt) (result : Result Ended Halt) → result ≡ Err halt
-    → InHand (GoesOnFor (with_literal (named_literal (named_of p) (type_at (types_of p) called.argument) text)) Stands) (Err halt)
-    → InHand (GoesOnFor (λ go. with_passed (role_of p called) text (λ a. go (ended_with (role_of p called) (AndV a NoV)))) (IsEnded Init p)) result
-init_halts p called is text {T} Stands halt result same halts = subst (InHand (GoesOnFor step (IsEnded Init p))) (sym same) (by halt halts)
+    → InHand (StepGivesFor (with_literal (named_literal (named_of p) (type_at (types_of p) called.argument) text)) Stands) (Err halt)
+    → InHand (StepGivesFor (λ go. with_passed (role_of p called) text (λ a. go (ended_with (role_of p called) (AndV a NoV)))) (IsEnded Init p)) result
+init_halts p called is text {T} Stands halt result same halts = subst (InHand (StepGivesFor step (IsEnded Init p))) (sym same) (by halt halts)
   where
     step : (EndedRole → Option Answer) → Option Answer
     step go = with_passed (role_of p called) text (λ a. go (ended_with (role_of p called) (AndV a NoV)))
@@ -70,7 +72,7 @@ init_halts p called is text {T} Stands halt result same halts = subst (InHand (G
         subst (λ t. HaltsAs (with_literal (named_literal (named_of p) t text) (λ a. go (ended_with (role_of p called) (AndV a NoV)))) halt) (sym (passed_is Init p called is))
         (halts (λ a. go (ended_with (role_of p called) (AndV a NoV))))
 
-    by : (halt : Halt) → InHand (GoesOnFor (with_literal (named_literal (named_of p) (type_at (types_of p) called.argument) text)) Stands) (Err halt) → InHand (GoesOnFor step (IsEnded Init p)) (Err halt)
+    by : (halt : Halt) → InHand (StepGivesFor (with_literal (named_literal (named_of p) (type_at (types_of p) called.argument) text)) Stands) (Err halt) → InHand (StepGivesFor step (IsEnded Init p)) (Err halt)
     by Usage halts = absurd halts
     by (Refused (refusal.Program kind line column)) halts = passes (Refused (refusal.Program kind line column)) halts
     by (Refused (refusal.Object kind)) halts = passes (Refused (refusal.Object kind)) halts

@@ -9,7 +9,7 @@ use Rattle.lam_outside.specs.Told.{Contents, Stores, AddsStores}
 use Rattle.printed_lines.specs.Lines.{refusal_line}
 use Rattle.printed_lines.specs.declared.refusal.Refusal.{Refusal}
 use Rattle.printed_lines.specs.declared.refusal.Refusal.TheVariants as refusal
-use Rattle.file_commands.specs.Answer.{Answer, refused, refusal_status, says}
+use Rattle.file_commands.specs.AnswerForms.{Answer, refused, refusal_status, says}
 use Rattle.file_commands.specs.Ending.{Outside, EndsAnswered, EndsAs, EndsOnSink, EndsInWriteFault, IsToldAs, MayWrite, StoresSome, WritesPart, lines_of, with_sink}
 use Rattle.file_commands.specs.Halting.{Found, Finds, HaltCause, InHand, JudgementCause, MayHalt, MayHaltJudging, ending_status, line_of, status_of}
 use Rattle.file_commands.specs.Telling.{Tells}

@@ -10,8 +10,11 @@ use Rattle.printed_lines.specs.declared.refusal.Argument.{Argument}
 use Rattle.printed_lines.specs.declared.refusal.Argument.TheVariants as named
 use Rattle.printed_lines.specs.declared.refusal.InputFault.{InputFault}
 use Rattle.printed_lines.specs.declared.refusal.InputFault.TheVariants.{RoleKind, TooLong}
-use Rattle.file_commands.specs.Answer.{Answer, call_audit_answer, command_answer, input_refused, max_file, proof_answer}
-use Rattle.file_commands.specs.Answer.{with_bytes, with_file, with_fuel, with_fueled_role, with_ideal_call, with_image, with_image_file, with_kept, with_program_file, with_literal, with_number, with_object_or_text, with_passed, with_program, with_role_at, with_root}
+use Rattle.file_commands.specs.Answer.{call_audit_answer, command_answer, proof_answer}
+use Rattle.file_commands.specs.FileInputs.{max_file, with_bytes, with_file, with_fuel, with_image, with_image_file, with_program_file, with_literal, with_number, with_object_or_text, with_program, with_root}
+use Rattle.file_commands.specs.AnswerForms.{Answer, input_refused}
+use Rattle.file_commands.specs.Answer.{with_kept}
+use Rattle.file_commands.specs.RoleInputs.{with_fueled_role, with_ideal_call, with_passed, with_role_at}
 use Rattle.file_commands.specs.AuditedCalls.{CallsAudit}
 use Rattle.file_commands.specs.FilePrograms.{constructor_names_of_file}
 use Rattle.file_commands.specs.FueledRoles.{DigestedProgram, FueledRole, NamedProgram}

@@ -4,9 +4,10 @@ use Rattle.core_terms.specs.Values.{Value}
 use Rattle.images.specs.Images.{Image, Root, Refused as BadBytes, image_of}
 use Rattle.printed_lines.specs.declared.refusal.InputFault.TheVariants.{Image as BadImage}
 use Rattle.printed_lines.specs.declared.refusal.Refusal.TheVariants as refusal
-use Rattle.file_commands.specs.Answer.{Answer, image_kind, image_read, input_refused, with_image, with_root}
+use Rattle.file_commands.specs.FileInputs.{image_kind, image_read, with_image, with_root}
+use Rattle.file_commands.specs.AnswerForms.{Answer, input_refused}
 use Rattle.file_commands.specs.FueledRoles.{DigestedProgram}
-use Rattle.file_commands.specs.Halting.{GoesOnFor, HaltsAs, InHand}
+use Rattle.file_commands.specs.Halting.{StepGivesFor, HaltsAs, InHand}
 use Rattle.file_commands.specs.declared.report.Halt.{Halt}
 use Rattle.file_commands.specs.declared.report.Halt.TheVariants.{Usage, Refused, ReadFault, NoMemory}
 
@@ -20,7 +21,7 @@ unfolding image_read
 is_image p bytes v goes = root_is (image_of p.program p.digest bytes) v goes
 
 -- what halts a step on what is in hand, where it gives what stands for a value
-pub hand_halts_for : {A T : Type 0} (step : (A → Option Answer) → Option Answer) (Stands : T → A → Type 0) (halt : Halt) → InHand (GoesOnFor step Stands) (Err halt)
+pub hand_halts_for : {A T : Type 0} (step : (A → Option Answer) → Option Answer) (Stands : T → A → Type 0) (halt : Halt) → InHand (StepGivesFor step Stands) (Err halt)
     → (go : A → Option Answer) → HaltsAs (step go) halt
 hand_halts_for step Stands Usage goes = absurd goes
 hand_halts_for step Stands (Refused (refusal.Program kind line column)) goes = goes

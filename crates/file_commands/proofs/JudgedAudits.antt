@@ -4,7 +4,10 @@ use Rattle.lam_outside.specs.Told.{Contents}
 use Rattle.collision_audit.specs.AuditsInCode.{AuditCause}
 use Rattle.collision_audit.specs.declared.audited.AuditFault.{AuditFault}
 use Rattle.collision_audit.specs.declared.audited.AuditFault.TheVariants as fault
-use Rattle.file_commands.specs.Answer.{Answer, call_audit_answer, with_bytes, with_fueled_role, with_ideal_call}
+use Rattle.file_commands.specs.Answer.{call_audit_answer}
+use Rattle.file_commands.specs.RoleInputs.{with_fueled_role, with_ideal_call}
+use Rattle.file_commands.specs.FileInputs.{with_bytes}
+use Rattle.file_commands.specs.AnswerForms.{Answer}
 use Rattle.file_commands.specs.CallsInStores.{audited_behind, with_called}
 use Rattle.file_commands.specs.FueledRoles.{FueledRole, NamedProgram}
 use Rattle.file_commands.specs.Halting.{Finds, Found, JudgementCause, of_audit_fault}

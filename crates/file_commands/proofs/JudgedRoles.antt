@@ -19,13 +19,15 @@ use Rattle.core_terms.proofs.LawProofs.{size_is_length}
 use Rattle.ideal_meaning.specs.Checked as checked
 use Rattle.ideal_meaning.specs.Ideal as ideal
 use Rattle.printed_lines.specs.Lines.{named_done_line}
-use Rattle.verifier_mode.specs.Verdicts.{Answers, IsTold, VerdictCause}
+use Rattle.verifier_mode.specs.Verdicts.{AnswersVerdict, TellsSomeOutcome, VerdictCause}
 use Rattle.ideal_meaning.specs.SpelledOutcomes.{SpellsOutcome}
 use Rattle.verifier_mode.specs.declared.verdict.Verdict.{Verdict}
 use Rattle.verifier_mode.specs.declared.verdict.Verdict.TheVariants as verdict
 use Rattle.shallow_codec.specs.ProgramTypes.{table, ty_of}
 use Rattle.core_terms.proofs.CodePrograms.{is_format}
-use Rattle.file_commands.specs.Answer.{Answer, accepted_answer, callee_of, says, shallow_told, spelling_stored, verdict_answer}
+use Rattle.file_commands.specs.Answer.{accepted_answer, callee_of, spelling_stored}
+use Rattle.file_commands.specs.OutcomeAnswers.{shallow_told}
+use Rattle.file_commands.specs.AnswerForms.{Answer, says, verdict_answer}
 use Rattle.file_commands.specs.FueledRoles.{FueledRole}
 use Rattle.file_commands.specs.Halting.{JudgementCause, ending_status}
 use Rattle.file_commands.specs.VerdictHalts.{of_verdict}
@@ -44,11 +46,11 @@ use Rattle.file_commands.proofs.RoleReports.{kind_told, result_type_is, update_p
 
 -- what is found of a verdict that is no outcome
 pub verdict_found : (tells : ideal.Outcome → Answer) (P : tree.Program) (f : ℕ) (meant : checked.Verdict) (v : Verdict) (name : List ℕ) (result : Result Output Halt)
-    → IsErrAnd result (λ halt. halt ≡ of_verdict v) → Answers P f meant (Err v) → FindsOutput name (Some (verdict_answer tells meant)) result
+    → IsErrAnd result (λ halt. halt ≡ of_verdict v) → AnswersVerdict P f meant (Err v) → FindsOutput name (Some (verdict_answer tells meant)) result
 verdict_found tells P f meant v name (Ok output) halt answers = absurd halt
 verdict_found tells P f meant v name (Err h) halt answers = subst (λ h. FindsOutput name (Some (verdict_answer tells meant)) (Err h)) (sym halt) (by v answers)
   where
-    by : (v : Verdict) → Answers P f meant (Err v) → FindsOutput name (Some (verdict_answer tells meant)) (Err (of_verdict v))
+    by : (v : Verdict) → AnswersVerdict P f meant (Err v) → FindsOutput name (Some (verdict_answer tells meant)) (Err (of_verdict v))
     by (verdict.Rejected cause) answers = ap (λ v. Some (verdict_answer tells v)) answers
     by (verdict.BadState offset) answers = ap (λ v. Some (verdict_answer tells v)) answers
     by (verdict.BadArgument offset) answers = ap (λ v. Some (verdict_answer tells v)) answers
@@ -67,7 +69,7 @@ verdict_judges {T = T} U before now v (Err h) halt cause = subst (λ h. Judgemen
     by verdict.NoMemory same = same
 
 -- the output of an outcome that is accepted
-pub accepted_found : (r : FueledRole) (out : Option (List ℕ)) (P : tree.Program) (f : ℕ) (meant : checked.Verdict) (outcome : Outcome Spelling) (output : Output) → Answers P f meant (Ok outcome)
+pub accepted_found : (r : FueledRole) (out : Option (List ℕ)) (P : tree.Program) (f : ℕ) (meant : checked.Verdict) (outcome : Outcome Spelling) (output : Output) → AnswersVerdict P f meant (Ok outcome)
     → ((o : ideal.Outcome) → SpellsOutcome P (tree.function_at P f).result o outcome → IsOutput (accepted_answer r out o) (name_of out) output)
     → FindsOutput (name_of out) (Some (verdict_answer (accepted_answer r out) meant)) (Ok output)
 accepted_found r out P f meant outcome output (o, accepted, spelled) is =
@@ -117,7 +119,7 @@ module _ (callee : Callee) (p : Program) (called : CalledRole) (is : IsCalled ca
       ap (shallow_told r) done ∙ ap (says DoneStatus) (sym (line_is ∙ ap (λ t. named_done_line types (constructor_names p.types.named.items) t v) type_is))
 
   -- the value is told at the type that the code holds
-  pub spelled_as_held : (bytes : List ℕ) → IsTold (meaning p) (result_called r) (told.Done bytes) → (v : Value) × Spells (meaning p).format.limit (meaning p).types bytes held v
+  pub spelled_as_held : (bytes : List ℕ) → TellsSomeOutcome (meaning p) (result_called r) (told.Done bytes) → (v : Value) × Spells (meaning p).format.limit (meaning p).types bytes held v
   spelled_as_held bytes (o, (v, done, spelled)) = (v, subst (λ t. Spells (meaning p).format.limit (meaning p).types bytes t v) (sym type_is) spelled)
 
 -- an update's result is the new state, with an answer
@@ -150,7 +152,7 @@ module _ (p : Program) (called : CalledRole) (is : IsCalled callees.Update p cal
     pub pair_lent : (answer : Ty) × (ty_of types called.result ≡ PairTy (types_meaning types).state answer)
     pair_lent = (is.answer, subst (λ (types : Types). ty_of types called.result ≡ PairTy (types_meaning types).state is.answer) (sym same) pair_held)
 
-    pub value_lent : IsTold (meaning p) (result_called (role_of p called)) (told.Done bytes) → (v : Value) × SpellsLent v
+    pub value_lent : TellsSomeOutcome (meaning p) (result_called (role_of p called)) (told.Done bytes) → (v : Value) × SpellsLent v
     value_lent told = let held = spelled_as_held callees.Update p called is bytes told in (held.0, to_lent held.0 held.1)
 
     -- and the spelling of the new state is stored

@@ -3,9 +3,9 @@ use Rattle.std.proofs.Common.{◌≡◌, ℕ, List, [], Option, None, Result, Ok
 use Rattle.lam_outside.specs.Told.{Stores}
 use Rattle.command_words.specs.declared.command.Command.{Command}
 use Rattle.printed_lines.specs.declared.refusal.Refusal.TheVariants as refusal
-use Rattle.file_commands.specs.Answer.{Answer}
+use Rattle.file_commands.specs.AnswerForms.{Answer}
 use Rattle.file_commands.specs.Ending.{EndsOnSink, with_sink}
-use Rattle.file_commands.specs.Halting.{FindsLines, Found, GoesOn, GoesOnFor, InHand, JudgementCause, ending_status, status_of}
+use Rattle.file_commands.specs.Halting.{FindsLines, Found, StepGives, StepGivesFor, InHand, JudgementCause, ending_status, status_of}
 use Rattle.file_commands.specs.SoundPrograms.{IsOutcome}
 use Rattle.file_commands.specs.Statuses.{MayAnswer, ReadsAProgram, RunsAFunction}
 use Rattle.file_commands.specs.Storing.{FindsOutput, StoresAndTells}
@@ -22,7 +22,7 @@ use Rattle.file_commands.proofs.Possible.{outcome_possible}
 
 -- what halts the first of two steps halts both
 module _ {A B S T : Type 0} (first : (A → Option Answer) → Option Answer) (next : A → (B → Option Answer) → Option Answer) (value : S → A) (behind : T → B) where
-  halts : (halt : Halt) → InHand (GoesOn first value) (Err halt) → InHand (GoesOn (λ go. first (λ a. next a go)) behind) (Err halt)
+  halts : (halt : Halt) → InHand (StepGives first value) (Err halt) → InHand (StepGives (λ go. first (λ a. next a go)) behind) (Err halt)
   halts Usage goes = goes
   halts (Refused (refusal.Program kind line column)) goes = λ go. goes (λ a. next a go)
   halts (Refused (refusal.Object kind)) goes = λ go. goes (λ a. next a go)
@@ -31,12 +31,12 @@ module _ {A B S T : Type 0} (first : (A → Option Answer) → Option Answer) (n
   halts ReadFault goes = goes
   halts NoMemory goes = λ go. tt
 
-  pub first_halts : (result : Result T Halt) (halt : Halt) → result ≡ Err halt → InHand (GoesOn first value) (Err halt) → InHand (GoesOn (λ go. first (λ a. next a go)) behind) result
-  first_halts result halt is goes = subst (InHand (GoesOn (λ go. first (λ a. next a go)) behind)) (sym is) (halts halt goes)
+  pub first_halts : (result : Result T Halt) (halt : Halt) → result ≡ Err halt → InHand (StepGives first value) (Err halt) → InHand (StepGives (λ go. first (λ a. next a go)) behind) result
+  first_halts result halt is goes = subst (InHand (StepGives (λ go. first (λ a. next a go)) behind)) (sym is) (halts halt goes)
 
 -- another step, which goes on in the same way
 module _ {A T : Type 0} (step other : (A → Option Answer) → Option Answer) (value : T → A) (same : (go : A → Option Answer) → other go ≡ step go) where
-  pub goes_as : (result : Result T Halt) → InHand (GoesOn step value) result → InHand (GoesOn other value) result
+  pub goes_as : (result : Result T Halt) → InHand (StepGives step value) result → InHand (StepGives other value) result
   goes_as (Ok t) goes = λ go. same go ∙ goes go
   goes_as (Err Usage) goes = goes
   goes_as (Err (Refused (refusal.Program kind line column))) goes = λ go. same go ∙ goes go
@@ -48,10 +48,10 @@ module _ {A T : Type 0} (step other : (A → Option Answer) → Option Answer) (
 
 -- what halts a step halts the work
 pub unfound : {A T : Type 0} (step : (A → Option Answer) → Option Answer) (value : T → A) (go : A → Option Answer) (result : Found) (halt : Halt)
-    → result ≡ Err halt → InHand (GoesOn step value) (Err halt) → InHand (FindsLines (step go)) result
+    → result ≡ Err halt → InHand (StepGives step value) (Err halt) → InHand (FindsLines (step go)) result
 unfound step value go result halt is goes = subst (InHand (FindsLines (step go))) (sym is) (by halt goes)
   where
-    by : (halt : Halt) → InHand (GoesOn step value) (Err halt) → InHand (FindsLines (step go)) (Err halt)
+    by : (halt : Halt) → InHand (StepGives step value) (Err halt) → InHand (FindsLines (step go)) (Err halt)
     by Usage goes = goes
     by (Refused (refusal.Program kind line column)) goes = goes go
     by (Refused (refusal.Object kind)) goes = goes go
@@ -61,10 +61,10 @@ unfound step value go result halt is goes = subst (InHand (FindsLines (step go))
     by NoMemory goes = tt
 
 pub unfound_for : {A T : Type 0} (step : (A → Option Answer) → Option Answer) (Stands : T → A → Type 0) (go : A → Option Answer) (result : Found) (halt : Halt)
-    → result ≡ Err halt → InHand (GoesOnFor step Stands) (Err halt) → InHand (FindsLines (step go)) result
+    → result ≡ Err halt → InHand (StepGivesFor step Stands) (Err halt) → InHand (FindsLines (step go)) result
 unfound_for step Stands go result halt is goes = subst (InHand (FindsLines (step go))) (sym is) (by halt goes)
   where
-    by : (halt : Halt) → InHand (GoesOnFor step Stands) (Err halt) → InHand (FindsLines (step go)) (Err halt)
+    by : (halt : Halt) → InHand (StepGivesFor step Stands) (Err halt) → InHand (FindsLines (step go)) (Err halt)
     by Usage goes = goes
     by (Refused (refusal.Program kind line column)) goes = goes go
     by (Refused (refusal.Object kind)) goes = goes go

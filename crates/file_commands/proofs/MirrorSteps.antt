@@ -8,8 +8,10 @@ use Rattle.piece_mirror.specs.declared.fault.MirrorFault.TheVariants as mirror_f
 use Rattle.printed_lines.specs.Lines.{pieces_line}
 use Rattle.printed_lines.specs.declared.refusal.InputFault.TheVariants.{Mirror as BadMirror}
 use Rattle.printed_lines.specs.declared.refusal.Refusal.TheVariants as refusal
-use Rattle.file_commands.specs.Answer.{Answer, input_refused, max_file, mirror_kind, mirror_read, pieces_answer, pieces_file, with_mirror, with_pieces}
-use Rattle.file_commands.specs.Halting.{GoesOn, InHand, of_mirror_fault}
+use Rattle.file_commands.specs.Answer.{mirror_kind, mirror_read, pieces_answer, pieces_file, with_mirror, with_pieces}
+use Rattle.file_commands.specs.FileInputs.{max_file}
+use Rattle.file_commands.specs.AnswerForms.{Answer, input_refused}
+use Rattle.file_commands.specs.Halting.{StepGives, InHand, of_mirror_fault}
 use Rattle.file_commands.specs.Storing.{FindsOutput}
 use Rattle.file_commands.specs.declared.report.Ending.TheVariants.{Done}
 use Rattle.file_commands.specs.declared.report.Halt.{Halt}
@@ -22,12 +24,12 @@ use Rattle.file_commands.proofs.StoredOutputs.{first_of, second_of, too_great}
 
 -- bytes that are no mirror halt the work
 pub mirror_refused : {T : Type 0} (bytes : List ℕ) (value : T → List (List ℕ)) (fault : MirrorFault) (result : Result T Halt) → IsErrAnd result (λ halt. halt ≡ of_mirror_fault fault)
-    → TellsFault (read_mirror bytes) fault → InHand (GoesOn (with_mirror bytes) value) result
+    → TellsFault (read_mirror bytes) fault → InHand (StepGives (with_mirror bytes) value) result
 unfolding mirror_read
 mirror_refused bytes value fault (Ok t) halt is = absurd halt
-mirror_refused bytes value fault (Err h) halt is = subst (λ h. InHand (GoesOn (with_mirror bytes) value) (Err h)) (sym halt) (by fault is)
+mirror_refused bytes value fault (Err h) halt is = subst (λ h. InHand (StepGives (with_mirror bytes) value) (Err h)) (sym halt) (by fault is)
   where
-    by : (fault : MirrorFault) → TellsFault (read_mirror bytes) fault → InHand (GoesOn (with_mirror bytes) value) (Err (of_mirror_fault fault))
+    by : (fault : MirrorFault) → TellsFault (read_mirror bytes) fault → InHand (StepGives (with_mirror bytes) value) (Err (of_mirror_fault fault))
     by (mirror_fault.Cut n) is = λ go. ap (λ m. with_pieces m go) is
     by (mirror_fault.BadField n) is = λ go. ap (λ m. with_pieces m go) is
     by (mirror_fault.Leftover n) is = λ go. ap (λ m. with_pieces m go) is
@@ -77,7 +79,7 @@ file_told pieces text file is saved name = (
 
 -- a step on what is in hand, behind one that goes on with it
 pub goes_on_behind : {A B T : Type 0} (first : (A → Option Answer) → Option Answer) (a : A) (next : A → (B → Option Answer) → Option Answer) (value : T → B) (result : Result T Halt)
-    → ((go : A → Option Answer) → first go ≡ go a) → InHand (GoesOn (next a) value) result → GoesOn (λ go. first (λ a. next a go)) value result
+    → ((go : A → Option Answer) → first go ≡ go a) → InHand (StepGives (next a) value) result → StepGives (λ go. first (λ a. next a go)) value result
 goes_on_behind first a next value (Ok t) is goes = λ go. is (λ a. next a go) ∙ goes go
 goes_on_behind first a next value (Err Usage) is goes = absurd goes
 goes_on_behind first a next value (Err (Refused (refusal.Program kind line column))) is goes = λ go. halts_behind _ _ (Refused (refusal.Program kind line column)) (is (λ a. next a go)) (goes go)

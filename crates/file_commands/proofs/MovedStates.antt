@@ -20,9 +20,11 @@ use Rattle.printed_lines.specs.declared.refusal.InputFault.TheVariants.{TooLong}
 use Rattle.printed_lines.specs.declared.refusal.MigrationKind.TheVariants as migration
 use Rattle.printed_lines.specs.declared.refusal.Refusal.TheVariants as refusal
 use Rattle.printed_types.specs.Laws.{EqualTextsAreEqualTables}
-use Rattle.file_commands.specs.Answer.{Answer, image_kind, image_read, input_refused, max_file, migrated_answer, migration_fault, moved_answer, with_declared_file, with_image, with_image_bytes, with_image_file, with_migration, with_no_fault, with_root}
+use Rattle.file_commands.specs.Answer.{migrated_answer, migration_fault, moved_answer, with_migration, with_no_fault}
+use Rattle.file_commands.specs.FileInputs.{image_kind, image_read, max_file, with_declared_file, with_image, with_image_bytes, with_image_file, with_root}
+use Rattle.file_commands.specs.AnswerForms.{Answer, input_refused}
 use Rattle.file_commands.specs.FueledRoles.{DeclaredProgram, DigestedProgram}
-use Rattle.file_commands.specs.Halting.{GoesOnFor, InHand}
+use Rattle.file_commands.specs.Halting.{StepGivesFor, InHand}
 use Rattle.file_commands.specs.MovedStates.{KeepsStates}
 use Rattle.file_commands.specs.Reaching.{without}
 use Rattle.file_commands.specs.ReadPrograms.{declared_of, digested_of, named_of}
@@ -118,13 +120,13 @@ module _ (p : DigestedProgram) (go : Value → Option Answer) where
 
 -- bytes that are an image are loaded, unless memory is wanting
 pub not_loaded : {T : Type 0} (q : DigestedProgram) (bytes : List ℕ) (v : Value) (Stands : T → Value → Type 0) (name : List ℕ) (answer : Option Answer) (halt : Halt) (result : Result Output Halt)
-    → result ≡ Err halt → image_of q.program q.digest bytes ≡ Root v → InHand (GoesOnFor (with_image q bytes) Stands) (Err halt) → InHand (FindsOutput name answer) result
+    → result ≡ Err halt → image_of q.program q.digest bytes ≡ Root v → InHand (StepGivesFor (with_image q bytes) Stands) (Err halt) → InHand (FindsOutput name answer) result
 not_loaded {T = T} q bytes v Stands name answer halt result err is goes = subst (InHand (FindsOutput name answer)) (sym err) (by halt goes)
   where
     none : (a : Answer) → with_image q bytes (λ v. None) ≡ Some a → ⊥
     none a some = let nothing : with_image q bytes (λ v. None) ≡ None = image_goes q bytes v is (λ v. None) in absurd (cc)
 
-    by : (halt : Halt) → InHand (GoesOnFor (with_image q bytes) Stands) (Err halt) → InHand (FindsOutput name answer) (Err halt)
+    by : (halt : Halt) → InHand (StepGivesFor (with_image q bytes) Stands) (Err halt) → InHand (FindsOutput name answer) (Err halt)
     by Usage goes = absurd goes
     by (Refused (refusal.Program kind line column)) goes = absurd (none _ (goes (λ v. None)))
     by (Refused (refusal.Object kind)) goes = absurd (none _ (goes (λ v. None)))

@@ -15,7 +15,8 @@ use Rattle.ideal_meaning.specs.Frames.{header}
 use Rattle.collision_audit.specs.Audits.{IsOnProof}
 use Rattle.collision_audit.proofs.OnProof.{header_is_on_proof}
 use Rattle.ideal_meaning.specs.Checked.{verdict, with_argument, with_state}
-use Rattle.file_commands.specs.Answer.{role_verdict, state_read}
+use Rattle.file_commands.specs.RoleInputs.{role_verdict}
+use Rattle.file_commands.specs.FileInputs.{state_read}
 use Rattle.file_commands.specs.FueledRoles.{FueledRole}
 use Rattle.file_commands.specs.RoleCalls.{kind_called, named_literal, program_called, type_passed}
 use Rattle.file_commands.specs.VerdictLaws.{VerdictsAreOnProofs}

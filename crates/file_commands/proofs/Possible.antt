@@ -5,10 +5,10 @@ use Rattle.command_words.specs.declared.command.Command.{Command}
 use Rattle.command_words.specs.declared.command.Command.TheVariants.{Audit}
 use Rattle.lam_outside.specs.Told.{Stores}
 use Rattle.printed_lines.specs.declared.refusal.Refusal.TheVariants as refusal
-use Rattle.file_commands.specs.Answer.{Answer}
+use Rattle.file_commands.specs.AnswerForms.{Answer}
 use Rattle.file_commands.specs.Codes.{code}
 use Rattle.file_commands.specs.Ending.{IsOfRefused}
-use Rattle.file_commands.specs.Halting.{Found, GoesOn, HaltCause, InHand, JudgementCause, MayHalt, ending_status, halt_status, status_of}
+use Rattle.file_commands.specs.Halting.{Found, StepGives, HaltCause, InHand, JudgementCause, MayHalt, ending_status, halt_status, status_of}
 use Rattle.file_commands.specs.SoundPrograms.{IsOutcome}
 use Rattle.file_commands.specs.Statuses.{JudgesAProof, MayAnswer, ReadsAProgram, ReadsFiles, RunsAFunction}
 use Rattle.file_commands.specs.Storing.{StoresAndTells, output_status}
@@ -64,7 +64,7 @@ no_program e = cc (e)
 
 -- a step on what is in hand that refuses inputs alone
 module _ {A T : Type 0} (step : (A → Option Answer) → Option Answer) (value : T → A) (inputs : (a : Answer) → step (λ x. None) ≡ Some a → a.status ≡ status.InputRefused) (command : Command) where
-  pub hand_halt_possible : (halt : Halt) → InHand (GoesOn step value) (Err halt) → MayAnswer command (halt_status halt)
+  pub hand_halt_possible : (halt : Halt) → InHand (StepGives step value) (Err halt) → MayAnswer command (halt_status halt)
   hand_halt_possible Usage goes = absurd goes
   hand_halt_possible (Refused (refusal.Program kind line column)) goes = absurd (no_program (inputs _ (goes (λ x. None))))
   hand_halt_possible (Refused (refusal.Object kind)) goes = absurd (no_program (inputs _ (goes (λ x. None))))
@@ -73,7 +73,7 @@ module _ {A T : Type 0} (step : (A → Option Answer) → Option Answer) (value 
   hand_halt_possible ReadFault goes = absurd goes
   hand_halt_possible NoMemory goes = tt
 
-  pub hand_step_possible : (result : Result T Halt) → InHand (GoesOn step value) result → IfErr result (λ halt. MayAnswer command (halt_status halt))
+  pub hand_step_possible : (result : Result T Halt) → InHand (StepGives step value) result → IfErr result (λ halt. MayAnswer command (halt_status halt))
   hand_step_possible (Ok t) goes = tt
   hand_step_possible (Err halt) goes = hand_halt_possible halt goes
 

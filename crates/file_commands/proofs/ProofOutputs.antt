@@ -9,7 +9,8 @@ use Rattle.ideal_meaning.specs.Frames.{Frame, New, Use}
 use Rattle.printed_lines.specs.Lines.{proof_line}
 use Rattle.ideal_meaning.specs.RunFrames.{again_in, fresh_in}
 use Rattle.prover_mode.specs.declared.proving.Proved.{Proved}
-use Rattle.file_commands.specs.Answer.{Answer, proof_answer}
+use Rattle.file_commands.specs.Answer.{proof_answer}
+use Rattle.file_commands.specs.AnswerForms.{Answer}
 use Rattle.file_commands.specs.IdealCalls.{IdealCall, call_frames, call_proof, call_proof_line, is_new, is_used, projected_outcome}
 use Rattle.file_commands.specs.Reporting.{IsToldOf, ReportsProof}
 use Rattle.file_commands.specs.Storing.{IsOutput}

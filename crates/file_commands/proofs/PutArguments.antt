@@ -24,9 +24,10 @@ use Rattle.shallow_codec.specs.Unspelled.{IsUnspelled}
 use Rattle.shallow_codec.specs.declared.fault.UnspellFault.{UnspellFault}
 use Rattle.shallow_codec.specs.declared.fault.UnspellFault.TheVariants.{Bad}
 use Rattle.shallow_codec.proofs.LawProofs.{plain_stands}
-use Rattle.file_commands.specs.Answer.{Answer, with_literal}
+use Rattle.file_commands.specs.FileInputs.{with_literal}
+use Rattle.file_commands.specs.AnswerForms.{Answer}
 use Rattle.file_commands.specs.FueledRoles.{NamedProgram}
-use Rattle.file_commands.specs.Halting.{GoesOnFor, InHand, of_literal_fault}
+use Rattle.file_commands.specs.Halting.{StepGivesFor, InHand, of_literal_fault}
 use Rattle.file_commands.specs.ReadPrograms.{named_of}
 use Rattle.file_commands.specs.RoleCalls.{named_literal}
 use Rattle.file_commands.specs.RolesCalled.{prover_nodes}
@@ -42,13 +43,13 @@ read_by_types p types is nodes ty bytes result h =
 -- a text that is no literal of a type is refused
 pub literal_refused_for : {T : Type 0} (p : NamedProgram) (t : Ty) (text : List ℕ) (Stands : T → Value → Type 0) (fault : LiteralFault) (result : Result T Halt)
     → IsErrAnd result (λ halt. halt ≡ of_literal_fault fault) → ReadsLiteral (literal_in p.digested.program p.names t text) (Err fault)
-    → InHand (GoesOnFor (with_literal (named_literal p t text)) Stands) result
+    → InHand (StepGivesFor (with_literal (named_literal p t text)) Stands) result
 unfolding named_literal
 literal_refused_for p t text Stands fault (Ok v) halt is = absurd halt
 literal_refused_for p t text Stands (literal_fault.At kind offset) (Err h) halt is =
-    subst (λ h. InHand (GoesOnFor (with_literal (named_literal p t text)) Stands) (Err h)) (sym halt) (λ go. ap (λ found. with_literal found go) is)
+    subst (λ h. InHand (StepGivesFor (with_literal (named_literal p t text)) Stands) (Err h)) (sym halt) (λ go. ap (λ found. with_literal found go) is)
 literal_refused_for p t text Stands literal_fault.NoMemory (Err h) halt is =
-    subst (λ h. InHand (GoesOnFor (with_literal (named_literal p t text)) Stands) (Err h)) (sym halt) (λ go. tt)
+    subst (λ h. InHand (StepGivesFor (with_literal (named_literal p t text)) Stands) (Err h)) (sym halt) (λ go. tt)
 
 abbrev names_of : Program → ConstructorNames
 names_of p = constructor_names p.types.named.items

@@ -6,12 +6,14 @@ use Rattle.lam_outside.specs.Told.{Contents, Names, Stores}
 use Rattle.lam_outside.specs.FileSteps.{AsksFor}
 use Rattle.printed_lines.specs.declared.refusal.Refusal.TheVariants as refusal
 use Rattle.core_terms.specs.Spelling.{spelling}
-use Rattle.file_commands.specs.Answer.{Answer, RoleCall, with_image_file, with_passed, with_state_file}
+use Rattle.file_commands.specs.RoleInputs.{RoleCall, with_passed}
+use Rattle.file_commands.specs.FileInputs.{with_image_file, with_state_file}
+use Rattle.file_commands.specs.AnswerForms.{Answer}
 use Rattle.file_commands.specs.Codes.{code}
 use Rattle.file_commands.specs.FueledRoles.{FueledRole}
 use Rattle.file_commands.specs.RoleCalls.{program_called}
 use Rattle.file_commands.specs.IdealCalls.{IdealCall}
-use Rattle.file_commands.specs.Halting.{Finds, Found, GoesOn, InHand, WithoutFiles, ending_status, halt_status, status_of}
+use Rattle.file_commands.specs.Halting.{Finds, Found, StepGives, InHand, WithoutFiles, ending_status, halt_status, status_of}
 use Rattle.file_commands.specs.Reaching.{FaultsAt, FaultsAtReached, HaltsAt, HaltsAtReached, IsLast, IsReached, without}
 use Rattle.file_commands.specs.Storing.{FindsOutput, StoresAndTells}
 use Rattle.file_commands.specs.Telling.{Tells}
@@ -100,14 +102,14 @@ any_reached answer name contents asked (Err NoMemory) needs last = tt
 
 -- what halts a step on what is in hand is no read fault
 hand_halt : {A T : Type 0} (step : (A → Option Answer) → Option Answer) (value : T → A) (answer : Contents → Option Answer) (contents : Option Contents) (asked : Option Names) (halt : Halt)
-    → InHand (GoesOn step value) (Err halt) → HaltsAtReached answer contents asked halt
+    → InHand (StepGives step value) (Err halt) → HaltsAtReached answer contents asked halt
 hand_halt step value answer contents asked Usage goes = tt
 hand_halt step value answer contents asked (Refused what) goes = tt
 hand_halt step value answer contents asked ReadFault goes = absurd goes
 hand_halt step value answer contents asked NoMemory goes = tt
 
 pub hand_reached : {A T U : Type 0} (step : (A → Option Answer) → Option Answer) (value : T → A) (answer : Contents → Option Answer) (contents : Option Contents) (asked : Option Names) (halt : Halt) (result : Result U Halt)
-    → result ≡ Err halt → InHand (GoesOn step value) (Err halt) → FaultsAtReached answer contents asked result
+    → result ≡ Err halt → InHand (StepGives step value) (Err halt) → FaultsAtReached answer contents asked result
 hand_reached step value answer contents asked halt result is goes = subst (FaultsAtReached answer contents asked) (sym is) (hand_halt step value answer contents asked halt goes)
 
 -- nor is what is found in hand

@@ -19,7 +19,8 @@ use Rattle.value_store.specs.Nodes.{AreSound, Node, greatest_limit}
 use Rattle.value_store.specs.Standing.{StandsFor}
 use Rattle.value_store.proofs.StandingNodes.{within_stands}
 use Rattle.value_store.proofs.TypedNodes.{ideal_stands, prover_refers}
-use Rattle.file_commands.specs.Answer.{outcome_told, says}
+use Rattle.file_commands.specs.OutcomeAnswers.{outcome_told}
+use Rattle.file_commands.specs.AnswerForms.{says}
 use Rattle.file_commands.specs.RoleCalls.{kind_called, projection_called, result_called, state_made}
 use Rattle.file_commands.specs.RolesCalled.{IsCalled, projection_line, prover_nodes, role_of}
 use Rattle.file_commands.specs.declared.roles.CalledRole.{CalledRole}

@@ -2,9 +2,10 @@
 use Rattle.std.proofs.Common.{◌≡◌, ℕ, List, Option, Some, Result, Ok, Err, refl, sym, ◌∙◌, subst}
 use Rattle.lam_outside.specs.Told.{Contents, Names}
 use Rattle.printed_lines.specs.declared.refusal.Refusal.TheVariants as refusal
-use Rattle.file_commands.specs.Answer.{Answer, with_program_file}
+use Rattle.file_commands.specs.FileInputs.{with_program_file}
+use Rattle.file_commands.specs.AnswerForms.{Answer}
 use Rattle.file_commands.specs.FueledRoles.{NamedProgram}
-use Rattle.file_commands.specs.Halting.{GoesOn, GoesOnFor, HaltCause, HaltsAs, InHand}
+use Rattle.file_commands.specs.Halting.{StepGives, StepGivesFor, HaltCause, HaltsAs, InHand}
 use Rattle.file_commands.specs.Reaching.{FaultsAtReached, HaltsAtReached, IsReached, without}
 use Rattle.file_commands.specs.Storing.{FindsOutput}
 use Rattle.file_commands.specs.declared.report.Halt.{Halt}
@@ -21,7 +22,7 @@ IsInHand halt = Unit {0}
 
 module _ {A T : Type 0} (step : (A → Option Answer) → Option Answer) (Stands : T → A → Type 0) where
   -- the halts of such work
-  pub in_hand : (halt : Halt) → IsInHand halt → ((go : A → Option Answer) → HaltsAs (step go) halt) → InHand (GoesOnFor step Stands) (Err halt)
+  pub in_hand : (halt : Halt) → IsInHand halt → ((go : A → Option Answer) → HaltsAs (step go) halt) → InHand (StepGivesFor step Stands) (Err halt)
   in_hand Usage is halts = is
   in_hand (Refused (refusal.Program kind line column)) is halts = halts
   in_hand (Refused (refusal.Object kind)) is halts = halts
@@ -30,7 +31,7 @@ module _ {A T : Type 0} (step : (A → Option Answer) → Option Answer) (Stands
   in_hand ReadFault is halts = is
   in_hand NoMemory is halts = halts
 
-  pub halts_in_hand : (halt : Halt) → InHand (GoesOnFor step Stands) (Err halt) → IsInHand halt × ((go : A → Option Answer) → HaltsAs (step go) halt)
+  pub halts_in_hand : (halt : Halt) → InHand (StepGivesFor step Stands) (Err halt) → IsInHand halt × ((go : A → Option Answer) → HaltsAs (step go) halt)
   halts_in_hand Usage goes = absurd goes
   halts_in_hand (Refused (refusal.Program kind line column)) goes = (tt, goes)
   halts_in_hand (Refused (refusal.Object kind)) goes = (tt, goes)
@@ -39,12 +40,12 @@ module _ {A T : Type 0} (step : (A → Option Answer) → Option Answer) (Stands
   halts_in_hand ReadFault goes = absurd goes
   halts_in_hand NoMemory goes = (tt, goes)
 
-  pub for_files : (result : Result T Halt) → InHand (GoesOnFor step Stands) result → GoesOnFor step Stands result
+  pub for_files : (result : Result T Halt) → InHand (StepGivesFor step Stands) result → StepGivesFor step Stands result
   for_files (Ok t) goes = goes
   for_files (Err halt) goes = (halts_in_hand halt goes).1
 
   -- what halts it is no fault of the outside
-  pub cause_in_hand : (before now : ℕ) (result : Result T Halt) → InHand (GoesOnFor step Stands) result → now ≡ before → HaltCause before now result
+  pub cause_in_hand : (before now : ℕ) (result : Result T Halt) → InHand (StepGivesFor step Stands) result → now ≡ before → HaltCause before now result
   cause_in_hand before now (Ok t) goes same = same
   cause_in_hand before now (Err Usage) goes same = absurd goes
   cause_in_hand before now (Err (Refused (refusal.Program kind line column))) goes same = same
@@ -54,7 +55,7 @@ module _ {A T : Type 0} (step : (A → Option Answer) → Option Answer) (Stands
   cause_in_hand before now (Err ReadFault) goes same = absurd goes
   cause_in_hand before now (Err NoMemory) goes same = same
 
-  pub reached_in_hand : (answer : Contents → Option Answer) (contents : Option Contents) (asked : Option Names) (result : Result T Halt) → InHand (GoesOnFor step Stands) result
+  pub reached_in_hand : (answer : Contents → Option Answer) (contents : Option Contents) (asked : Option Names) (result : Result T Halt) → InHand (StepGivesFor step Stands) result
       → FaultsAtReached answer contents asked result
   reached_in_hand answer contents asked (Ok t) goes = tt
   reached_in_hand answer contents asked (Err Usage) goes = absurd goes
@@ -64,7 +65,7 @@ module _ {A T : Type 0} (step : (A → Option Answer) → Option Answer) (Stands
 
   -- another step, which goes on in the same way
   module _ (other : (A → Option Answer) → Option Answer) (same : (go : A → Option Answer) → other go ≡ step go) where
-    pub same_in_hand : (result : Result T Halt) → InHand (GoesOnFor step Stands) result → InHand (GoesOnFor other Stands) result
+    pub same_in_hand : (result : Result T Halt) → InHand (StepGivesFor step Stands) result → InHand (StepGivesFor other Stands) result
     same_in_hand (Ok t) goes = (goes.0, (λ go. same go ∙ goes.1 go), goes.2)
     same_in_hand (Err Usage) goes = goes
     same_in_hand (Err (Refused (refusal.Program kind line column))) goes = λ go. same go ∙ goes go
@@ -76,7 +77,7 @@ module _ {A T : Type 0} (step : (A → Option Answer) → Option Answer) (Stands
 
 -- what halts the first of two steps halts both
 module _ {A B S T : Type 0} (first : (A → Option Answer) → Option Answer) (next : A → (B → Option Answer) → Option Answer) (value : S → A) (Stands : T → B → Type 0) where
-  hand_halt_for : (halt : Halt) → InHand (GoesOn first value) (Err halt) → InHand (GoesOnFor (λ go. first (λ a. next a go)) Stands) (Err halt)
+  hand_halt_for : (halt : Halt) → InHand (StepGives first value) (Err halt) → InHand (StepGivesFor (λ go. first (λ a. next a go)) Stands) (Err halt)
   hand_halt_for Usage goes = goes
   hand_halt_for (Refused (refusal.Program kind line column)) goes = λ go. goes (λ a. next a go)
   hand_halt_for (Refused (refusal.Object kind)) goes = λ go. goes (λ a. next a go)
@@ -85,27 +86,27 @@ module _ {A B S T : Type 0} (first : (A → Option Answer) → Option Answer) (n
   hand_halt_for ReadFault goes = goes
   hand_halt_for NoMemory goes = λ go. tt
 
-  pub hand_first : (result : Result T Halt) (halt : Halt) → result ≡ Err halt → InHand (GoesOn first value) (Err halt) → InHand (GoesOnFor (λ go. first (λ a. next a go)) Stands) result
-  hand_first result halt is goes = subst (InHand (GoesOnFor (λ go. first (λ a. next a go)) Stands)) (sym is) (hand_halt_for halt goes)
+  pub hand_first : (result : Result T Halt) (halt : Halt) → result ≡ Err halt → InHand (StepGives first value) (Err halt) → InHand (StepGivesFor (λ go. first (λ a. next a go)) Stands) result
+  hand_first result halt is goes = subst (InHand (StepGivesFor (λ go. first (λ a. next a go)) Stands)) (sym is) (hand_halt_for halt goes)
 
 -- the same where the first gives what stands for a value
 pub put_first : {A B S T : Type 0} (first : (A → Option Answer) → Option Answer) (next : A → (B → Option Answer) → Option Answer) (Put : S → A → Type 0) (Stands : T → B → Type 0)
-    (result : Result T Halt) (halt : Halt) → result ≡ Err halt → InHand (GoesOnFor first Put) (Err halt) → InHand (GoesOnFor (λ go. first (λ a. next a go)) Stands) result
+    (result : Result T Halt) (halt : Halt) → result ≡ Err halt → InHand (StepGivesFor first Put) (Err halt) → InHand (StepGivesFor (λ go. first (λ a. next a go)) Stands) result
 put_first first next Put Stands result halt is goes =
     let halts = halts_in_hand first Put halt goes in
-    subst (InHand (GoesOnFor (λ go. first (λ a. next a go)) Stands)) (sym is) (in_hand (λ go. first (λ a. next a go)) Stands halt halts.0 (λ go. halts.1 (λ a. next a go)))
+    subst (InHand (StepGivesFor (λ go. first (λ a. next a go)) Stands)) (sym is) (in_hand (λ go. first (λ a. next a go)) Stands halt halts.0 (λ go. halts.1 (λ a. next a go)))
 
 -- what halts a step halts the work
 pub halts_for : {A T : Type 0} (step : (A → Option Answer) → Option Answer) (Stands : T → A → Type 0) (result : Result T Halt) (halt : Halt) → result ≡ Err halt
-    → ((go : A → Option Answer) → HaltsAs (step go) halt) → GoesOnFor step Stands result
-halts_for step Stands result halt is halts = subst (GoesOnFor step Stands) (sym is) halts
+    → ((go : A → Option Answer) → HaltsAs (step go) halt) → StepGivesFor step Stands result
+halts_for step Stands result halt is halts = subst (StepGivesFor step Stands) (sym is) halts
 
 -- and the output is not found
 pub hand_unfound : {A T : Type 0} (name : List ℕ) (step : (A → Option Answer) → Option Answer) (Stands : T → A → Type 0) (go : A → Option Answer) (result : Result Output Halt) (halt : Halt)
-    → result ≡ Err halt → InHand (GoesOnFor step Stands) (Err halt) → InHand (FindsOutput name (step go)) result
+    → result ≡ Err halt → InHand (StepGivesFor step Stands) (Err halt) → InHand (FindsOutput name (step go)) result
 hand_unfound name step Stands go result halt is goes = subst (InHand (FindsOutput name (step go))) (sym is) (by halt goes)
   where
-    by : (halt : Halt) → InHand (GoesOnFor step Stands) (Err halt) → InHand (FindsOutput name (step go)) (Err halt)
+    by : (halt : Halt) → InHand (StepGivesFor step Stands) (Err halt) → InHand (FindsOutput name (step go)) (Err halt)
     by Usage goes = goes
     by (Refused (refusal.Program kind line column)) goes = goes go
     by (Refused (refusal.Object kind)) goes = goes go

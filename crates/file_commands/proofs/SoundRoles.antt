@@ -18,12 +18,13 @@ use Rattle.ideal_meaning.specs.Ideal.{Outcome}
 use Rattle.ideal_meaning.specs.Checked.{Accepted}
 use Rattle.ideal_meaning.specs.Fetched.{Got, TrueFromOrSplit, answered}
 use Rattle.ideal_meaning.specs.Frames.{offered, offered_pieces, header}
-use Rattle.ideal_meaning.specs.Headline.{TrueOrSplit, call_of}
+use Rattle.ideal_meaning.specs.Headline.{TrueOrSplit, call_values}
 use Rattle.ideal_meaning.specs.PieceForms.{IsOfWhole}
 use Rattle.ideal_meaning.proofs.Headline.{headline}
 use Rattle.ideal_meaning.proofs.RoleCalls.{parameters_are, result_is}
 use Rattle.piece_mirror.specs.Answers.{given_by}
-use Rattle.file_commands.specs.Answer.{callee_of, fetched_verdict, role_verdict}
+use Rattle.file_commands.specs.Answer.{callee_of, fetched_verdict}
+use Rattle.file_commands.specs.RoleInputs.{role_verdict}
 use Rattle.fetched_verdicts.specs.Verdicts.{AreAnswersOf}
 use Rattle.file_commands.specs.FueledRoles.{FueledRole}
 use Rattle.file_commands.specs.NamedCalls.{NamesRole}
@@ -89,7 +90,7 @@ pub reader_headline : (r : FueledRole) (state argument : Value) (proof : List �
       argument = spelling (projection sha256 (program_called r) (argument_type (program_called r) r.role) argument);
     }) proof ≡ Accepted o
     → (n : ℕ) × (header (program_called r).format proof ≡ Some n)
-    × TrueOrSplit sha256 (program_called r) r.role (result_called r) (call_of state argument) r.fuel
+    × TrueOrSplit sha256 (program_called r) r.role (result_called r) (call_values state argument) r.fuel
     (offered_pieces (offered (program_called r).format.limit (drop 6 proof) n [])) o
 unfolding role_verdict
 reader_headline r state argument proof o reader ideal_state ideal_argument accepted =
@@ -99,7 +100,7 @@ reader_headline r state argument proof o reader ideal_state ideal_argument accep
     headline sha256 length-sha256 P reader.format reader.typed f (function_at P f).kind (argument_type P f) reader.answer reader.role reader.reads state
     argument ideal_state ideal_argument r.fuel proof o accepted in
     let pieces = offered_pieces (offered P.format.limit (drop 6 proof) said.0 []) in
-    (said.0, said.1, subst (λ t. TrueOrSplit sha256 P f t (call_of state argument) r.fuel pieces o) (sym reader.result) said.2)
+    (said.0, said.1, subst (λ t. TrueOrSplit sha256 P f t (call_values state argument) r.fuel pieces o) (sym reader.result) said.2)
 
 -- a piece of a sound program that is fetched is what the digest is of
 pub sound_whole : (P : Program) → IsSound P → IsOfWhole sha256 P
@@ -117,7 +118,7 @@ pub reader_fetched : (r : FueledRole) (state argument : Value) (pieces : List (L
       argument = spelling (projection sha256 (program_called r) (argument_type (program_called r) r.role) argument);
     }) pieces ≡ Accepted o
     → (answers : List Got) × AreAnswersOf sha256 (given_by sha256 pieces) answers (Accepted o)
-    × TrueFromOrSplit sha256 (program_called r) r.role (result_called r) (call_of state argument) r.fuel (offered_pieces (answered answers)) [] o
+    × TrueFromOrSplit sha256 (program_called r) r.role (result_called r) (call_values state argument) r.fuel (offered_pieces (answered answers)) [] o
 unfolding fetched_verdict
 reader_fetched r state argument pieces o reader whole ideal_state ideal_argument accepted =
     let P = program_called r in
@@ -125,4 +126,4 @@ reader_fetched r state argument pieces o reader whole ideal_state ideal_argument
     let said =
     true_over sha256 length-sha256 P reader.format reader.typed whole f (function_at P f).kind (argument_type P f) reader.answer reader.role reader.reads state
     argument ideal_state ideal_argument r.fuel (given_by sha256 pieces) o accepted in
-    (said.0, said.1, subst (λ t. TrueFromOrSplit sha256 P f t (call_of state argument) r.fuel (offered_pieces (answered said.0)) [] o) (sym reader.result) said.2)
+    (said.0, said.1, subst (λ t. TrueFromOrSplit sha256 P f t (call_values state argument) r.fuel (offered_pieces (answered said.0)) [] o) (sym reader.result) said.2)

@@ -12,7 +12,7 @@ use Rattle.core_terms.specs.Projection.{digest_at, projection}
 use Rattle.core_terms.proofs.LawProofs.{projection_is_shallow}
 use Rattle.ideal_meaning.proofs.Projections.{length_piece}
 use Rattle.printed_lines.specs.Lines.{state_line}
-use Rattle.file_commands.specs.Answer.{state_answer, state_projection}
+use Rattle.file_commands.specs.OutcomeAnswers.{state_answer, state_projection}
 use Rattle.file_commands.specs.FueledRoles.{NamedProgram}
 use Rattle.file_commands.specs.Halting.{ending_status}
 use Rattle.file_commands.specs.Storing.{IsOutput, stored_as}

@@ -18,8 +18,9 @@ use Rattle.printed_syntax.specs.Literals.{literal_in}
 use Rattle.shallow_codec.specs.ProgramTypes.{ty_of}
 use Rattle.shallow_codec.specs.Unspelled.{IsRead}
 use Rattle.shallow_codec.specs.declared.fault.UnspellFault.TheVariants.{Bad}
-use Rattle.file_commands.specs.Answer.{Answer, input_refused, state_read, with_literal, with_state, with_state_read}
-use Rattle.file_commands.specs.Halting.{GoesOn, InHand, of_literal_fault}
+use Rattle.file_commands.specs.FileInputs.{state_read, with_literal, with_state, with_state_read}
+use Rattle.file_commands.specs.AnswerForms.{Answer, input_refused}
+use Rattle.file_commands.specs.Halting.{StepGives, InHand, of_literal_fault}
 use Rattle.file_commands.specs.ReadPrograms.{named_of}
 use Rattle.file_commands.specs.RoleCalls.{named_literal}
 use Rattle.file_commands.specs.RolesCalled.{IsCalled, role_of}
@@ -52,24 +53,24 @@ module _ (callee : Callee) (p : Program) (called : CalledRole) (is : IsCalled ca
   abbrev spelled_at : Ty → (List ℕ → Option Answer) → Option Answer
   spelled_at t go = with_literal (named_literal (named_of p) t text) (λ a. go (spelling a))
 
-  as_held : {A : Type 0} (value : A → List ℕ) (result : Result A Halt) → InHand (GoesOn (spelled_at t) value) result → InHand (GoesOn (with_spelled (role_of p called) text) value) result
-  as_held value result goes = subst (λ t. InHand (GoesOn (spelled_at t) value) result) (sym (passed_is callee p called is)) goes
+  as_held : {A : Type 0} (value : A → List ℕ) (result : Result A Halt) → InHand (StepGives (spelled_at t) value) result → InHand (StepGives (with_spelled (role_of p called) text) value) result
+  as_held value result goes = subst (λ t. InHand (StepGives (spelled_at t) value) result) (sym (passed_is callee p called is)) goes
 
   pub passed_refused : {A : Type 0} (value : A → List ℕ) (fault : LiteralFault) (result : Result A Halt) → IsErrAnd result (λ halt. halt ≡ of_literal_fault fault)
-      → ReadsLiteral (literal_in (meaning p) (named_of p).names t text) (Err fault) → InHand (GoesOn (with_spelled (role_of p called) text) value) result
+      → ReadsLiteral (literal_in (meaning p) (named_of p).names t text) (Err fault) → InHand (StepGives (with_spelled (role_of p called) text) value) result
   unfolding named_literal
   passed_refused {A = A} value fault result halt is_fault = as_held value result (by fault result halt is_fault)
     where
       by : (fault : LiteralFault) (result : Result A Halt) → IsErrAnd result (λ halt. halt ≡ of_literal_fault fault) → ReadsLiteral (literal_in (meaning p) (named_of p).names t text) (Err fault)
-          → InHand (GoesOn (spelled_at t) value) result
+          → InHand (StepGives (spelled_at t) value) result
       by fault (Ok a) halt is = absurd halt
-      by (literal_fault.At kind offset) (Err h) halt is = subst (λ h. InHand (GoesOn (spelled_at t) value) (Err h)) (sym halt) (λ go. ap (λ found. with_literal found (λ a. go (spelling a))) is)
-      by literal_fault.NoMemory (Err h) halt is = subst (λ h. InHand (GoesOn (spelled_at t) value) (Err h)) (sym halt) (λ go. tt)
+      by (literal_fault.At kind offset) (Err h) halt is = subst (λ h. InHand (StepGives (spelled_at t) value) (Err h)) (sym halt) (λ go. ap (λ found. with_literal found (λ a. go (spelling a))) is)
+      by literal_fault.NoMemory (Err h) halt is = subst (λ h. InHand (StepGives (spelled_at t) value) (Err h)) (sym halt) (λ go. tt)
 
   pub passed_goes : (bytes : List ℕ) → SpellsLiteral (literal_in (meaning p) (named_of p).names t text) bytes
-      → InHand (GoesOn (with_spelled (role_of p called) text) (λ (bytes : List ℕ). bytes)) (Ok bytes)
+      → InHand (StepGives (with_spelled (role_of p called) text) (λ (bytes : List ℕ). bytes)) (Ok bytes)
   unfolding named_literal
   passed_goes bytes spelled = as_held (λ bytes. bytes) (Ok bytes) (by spelled)
     where
-      by : SpellsLiteral (literal_in (meaning p) (named_of p).names t text) bytes → InHand (GoesOn (spelled_at t) (λ (bytes : List ℕ). bytes)) (Ok bytes)
+      by : SpellsLiteral (literal_in (meaning p) (named_of p).names t text) bytes → InHand (StepGives (spelled_at t) (λ (bytes : List ℕ). bytes)) (Ok bytes)
       by spelled = λ go. ap (λ found. with_literal found (λ a. go (spelling a))) spelled.1 ∙ ap go spelled.2

@@ -7,9 +7,10 @@ use Rattle.images.specs.Loads.{TellsFault}
 use Rattle.images.specs.declared.fault.ImageFault.{ImageFault}
 use Rattle.images.specs.declared.fault.ImageFault.TheVariants as image_fault
 use Rattle.printed_lines.specs.declared.refusal.Refusal.TheVariants as refusal
-use Rattle.file_commands.specs.Answer.{Answer, image_read, with_image, with_root}
+use Rattle.file_commands.specs.FileInputs.{image_read, with_image, with_root}
+use Rattle.file_commands.specs.AnswerForms.{Answer}
 use Rattle.file_commands.specs.FueledRoles.{DigestedProgram}
-use Rattle.file_commands.specs.Halting.{Finds, Found, GoesOn, GoesOnFor, HaltCause, HaltsAs, InHand, WithoutFiles, of_image_fault}
+use Rattle.file_commands.specs.Halting.{Finds, Found, StepGives, StepGivesFor, HaltCause, HaltsAs, InHand, WithoutFiles, of_image_fault}
 use Rattle.file_commands.specs.Storing.{FindsOutput}
 use Rattle.file_commands.specs.declared.report.Halt.{Halt}
 use Rattle.file_commands.specs.declared.report.Halt.TheVariants.{Usage, Refused, ReadFault, NoMemory}
@@ -17,19 +18,19 @@ use Rattle.file_commands.specs.declared.report.Output.{Output}
 
 -- a step that halts
 pub halted : {A T : Type 0} (step : (A → Option Answer) → Option Answer) (value : T → A) (result : Result T Halt) (halt : Halt)
-    → result ≡ Err halt → ((go : A → Option Answer) → HaltsAs (step go) halt) → GoesOn step value result
+    → result ≡ Err halt → ((go : A → Option Answer) → HaltsAs (step go) halt) → StepGives step value result
 halted step value (Ok t) halt is halts = absurd (cc)
 halted step value (Err other) halt is halts = λ go. let same : halt ≡ other = cc in subst (λ h. HaltsAs (step go) h) same (halts go)
 
 -- the same step, where the answer goes on with less
 pub goes_on_as : {A B T : Type 0} (step : (A → Option Answer) → Option Answer) (part : A → B) (value : T → A) (result : Result T Halt)
-    → GoesOn step value result → GoesOn (λ go. step (λ a. go (part a))) (λ t. part (value t)) result
+    → StepGives step value result → StepGives (λ go. step (λ a. go (part a))) (λ t. part (value t)) result
 goes_on_as step part value (Ok t) goes = λ go. goes (λ a. go (part a))
 goes_on_as step part value (Err halt) goes = λ go. goes (λ a. go (part a))
 
 -- what halts the first of two steps halts both
 pub halts_first : {A B T : Type 0} (first : (A → Option Answer) → Option Answer) (next : A → (B → Option Answer) → Option Answer) (value : T → B) (result : Result T Halt) (halt : Halt)
-    → result ≡ Err halt → ((go : A → Option Answer) → HaltsAs (first go) halt) → GoesOn (λ go. first (λ a. next a go)) value result
+    → result ≡ Err halt → ((go : A → Option Answer) → HaltsAs (first go) halt) → StepGives (λ go. first (λ a. next a go)) value result
 halts_first first next value result halt is halts = halted (λ go. first (λ a. next a go)) value result halt is (λ go. halts (λ a. next a go))
 
 -- an answer that comes to a halt
@@ -38,14 +39,14 @@ halts_behind answer behind halt same halts = subst (λ a. HaltsAs a halt) (sym s
 
 -- what halts the first of two steps halts both, where what is given stands for a value
 pub halts_first_for : {A B T : Type 0} (first : (A → Option Answer) → Option Answer) (next : A → (B → Option Answer) → Option Answer) (Stands : T → B → Type 0) (result : Result T Halt) (halt : Halt)
-    → result ≡ Err halt → ((go : A → Option Answer) → HaltsAs (first go) halt) → GoesOnFor (λ go. first (λ a. next a go)) Stands result
+    → result ≡ Err halt → ((go : A → Option Answer) → HaltsAs (first go) halt) → StepGivesFor (λ go. first (λ a. next a go)) Stands result
 halts_first_for first next Stands (Ok t) halt is halts = absurd (cc)
 halts_first_for first next Stands (Err other) halt is halts =
     λ go. let same : halt ≡ other = cc in subst (λ h. HaltsAs (first (λ a. next a go)) h) same (halts (λ a. next a go))
 
 -- a step on what is in hand, behind one that goes on with it
 pub goes_behind : {A B T : Type 0} (first : (A → Option Answer) → Option Answer) (a : A) (next : A → (B → Option Answer) → Option Answer) (Stands : T → B → Type 0) (result : Result T Halt)
-    → ((go : A → Option Answer) → first go ≡ go a) → InHand (GoesOnFor (next a) Stands) result → GoesOnFor (λ go. first (λ a. next a go)) Stands result
+    → ((go : A → Option Answer) → first go ≡ go a) → InHand (StepGivesFor (next a) Stands) result → StepGivesFor (λ go. first (λ a. next a go)) Stands result
 goes_behind first a next Stands (Ok t) is goes = (goes.0, (λ go. is (λ a. next a go) ∙ goes.1 go), goes.2)
 goes_behind first a next Stands (Err Usage) is goes = absurd goes
 goes_behind first a next Stands (Err (Refused (refusal.Program kind line column))) is goes = λ go. halts_behind _ _ (Refused (refusal.Program kind line column)) (is (λ a. next a go)) (goes go)
@@ -57,18 +58,18 @@ goes_behind first a next Stands (Err NoMemory) is goes = λ go. tt
 
 -- the same of a step that may read files
 pub follows : {A B T : Type 0} (first : (A → Option Answer) → Option Answer) (a : A) (next : A → (B → Option Answer) → Option Answer) (Stands : T → B → Type 0) (result : Result T Halt)
-    → ((go : A → Option Answer) → first go ≡ go a) → GoesOnFor (next a) Stands result → GoesOnFor (λ go. first (λ a. next a go)) Stands result
+    → ((go : A → Option Answer) → first go ≡ go a) → StepGivesFor (next a) Stands result → StepGivesFor (λ go. first (λ a. next a go)) Stands result
 follows first a next Stands (Ok t) is goes = (goes.0, (λ go. is (λ a. next a go) ∙ goes.1 go), goes.2)
 follows first a next Stands (Err halt) is goes = λ go. halts_behind _ _ halt (is (λ a. next a go)) (goes go)
 
 -- the same where the step gives the value itself
 pub follows_on : {A B T : Type 0} (first : (A → Option Answer) → Option Answer) (a : A) (next : A → (B → Option Answer) → Option Answer) (value : T → B) (result : Result T Halt)
-    → ((go : A → Option Answer) → first go ≡ go a) → GoesOn (next a) value result → GoesOn (λ go. first (λ a. next a go)) value result
+    → ((go : A → Option Answer) → first go ≡ go a) → StepGives (next a) value result → StepGives (λ go. first (λ a. next a go)) value result
 follows_on first a next value (Ok t) is goes = λ go. is (λ a. next a go) ∙ goes go
 follows_on first a next value (Err halt) is goes = λ go. halts_behind _ _ halt (is (λ a. next a go)) (goes go)
 
 -- what halts a step on what is in hand
-pub hand_halts : {A T : Type 0} (step : (A → Option Answer) → Option Answer) (value : T → A) (halt : Halt) → InHand (GoesOn step value) (Err halt) → (go : A → Option Answer) → HaltsAs (step go) halt
+pub hand_halts : {A T : Type 0} (step : (A → Option Answer) → Option Answer) (value : T → A) (halt : Halt) → InHand (StepGives step value) (Err halt) → (go : A → Option Answer) → HaltsAs (step go) halt
 hand_halts step value Usage goes = absurd goes
 hand_halts step value (Refused (refusal.Program kind line column)) goes = goes
 hand_halts step value (Refused (refusal.Object kind)) goes = goes
@@ -97,12 +98,12 @@ output_halt name answer (Err other) halt is halts = let same : halt ≡ other = 
 
 -- bytes that are no image are refused
 pub image_refused : {T : Type 0} (p : DigestedProgram) (bytes : List ℕ) (value : T → Value) (fault : ImageFault) (result : Result T Halt)
-    → IsErrAnd result (λ halt. halt ≡ of_image_fault fault) → TellsFault (λ f. image_of p.program p.digest bytes ≡ images.Refused f) fault → InHand (GoesOn (with_image p bytes) value) result
+    → IsErrAnd result (λ halt. halt ≡ of_image_fault fault) → TellsFault (λ f. image_of p.program p.digest bytes ≡ images.Refused f) fault → InHand (StepGives (with_image p bytes) value) result
 unfolding image_read
 image_refused p bytes value fault (Ok t) halt is = absurd halt
-image_refused p bytes value fault (Err h) halt is = subst (λ h. InHand (GoesOn (with_image p bytes) value) (Err h)) (sym halt) (by fault is)
+image_refused p bytes value fault (Err h) halt is = subst (λ h. InHand (StepGives (with_image p bytes) value) (Err h)) (sym halt) (by fault is)
   where
-    by : (fault : ImageFault) → TellsFault (λ f. image_of p.program p.digest bytes ≡ images.Refused f) fault → InHand (GoesOn (with_image p bytes) value) (Err (of_image_fault fault))
+    by : (fault : ImageFault) → TellsFault (λ f. image_of p.program p.digest bytes ≡ images.Refused f) fault → InHand (StepGives (with_image p bytes) value) (Err (of_image_fault fault))
     by image_fault.Magic is = λ go. ap (λ i. with_root i go) is
     by (image_fault.Cut n) is = λ go. ap (λ i. with_root i go) is
     by image_fault.OtherProgram is = λ go. ap (λ i. with_root i go) is
@@ -114,11 +115,11 @@ image_refused p bytes value fault (Err h) halt is = subst (λ h. InHand (GoesOn 
     by image_fault.NoMemory is = λ go. tt
 
 pub image_refused_for : {T : Type 0} (p : DigestedProgram) (bytes : List ℕ) (Stands : T → Value → Type 0) (fault : ImageFault) (result : Result T Halt)
-    → IsErrAnd result (λ halt. halt ≡ of_image_fault fault) → TellsFault (λ f. image_of p.program p.digest bytes ≡ images.Refused f) fault → InHand (GoesOnFor (with_image p bytes) Stands) result
+    → IsErrAnd result (λ halt. halt ≡ of_image_fault fault) → TellsFault (λ f. image_of p.program p.digest bytes ≡ images.Refused f) fault → InHand (StepGivesFor (with_image p bytes) Stands) result
 image_refused_for p bytes Stands fault (Ok t) halt is = absurd halt
 image_refused_for p bytes Stands fault (Err h) halt is = by h (image_refused {T = Value} p bytes (λ v. v) fault (Err h) halt is)
   where
-    by : (h : Halt) → InHand (GoesOn {T = Value} (with_image p bytes) (λ v. v)) (Err h) → InHand (GoesOnFor (with_image p bytes) Stands) (Err h)
+    by : (h : Halt) → InHand (StepGives {T = Value} (with_image p bytes) (λ v. v)) (Err h) → InHand (StepGivesFor (with_image p bytes) Stands) (Err h)
     by Usage goes = absurd goes
     by (Refused (refusal.Program kind line column)) goes = goes
     by (Refused (refusal.Object kind)) goes = goes
@@ -134,10 +135,10 @@ image_goes p bytes v is go = ap (λ i. with_root i go) is
 
 -- what halted work on what is in hand is found
 pub hand_halt : {A T : Type 0} (name : List ℕ) (step : (A → Option Answer) → Option Answer) (value : T → A) (go : A → Option Answer) (result : Result Output Halt) (halt : Halt)
-    → result ≡ Err halt → InHand (GoesOn step value) (Err halt) → InHand (FindsOutput name (step go)) result
+    → result ≡ Err halt → InHand (StepGives step value) (Err halt) → InHand (FindsOutput name (step go)) result
 hand_halt name step value go result halt is goes = subst (InHand (FindsOutput name (step go))) (sym is) (by halt goes)
   where
-    by : (halt : Halt) → InHand (GoesOn step value) (Err halt) → InHand (FindsOutput name (step go)) (Err halt)
+    by : (halt : Halt) → InHand (StepGives step value) (Err halt) → InHand (FindsOutput name (step go)) (Err halt)
     by Usage goes = absurd goes
     by (Refused (refusal.Program kind line column)) goes = goes go
     by (Refused (refusal.Object kind)) goes = goes go

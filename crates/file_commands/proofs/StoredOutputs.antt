@@ -10,7 +10,9 @@ use Rattle.images.specs.SavedImages.{saved_image}
 use Rattle.images.specs.Saves.{IsSaved}
 use Rattle.images.specs.declared.fault.SaveFault.{SaveFault}
 use Rattle.images.specs.declared.fault.SaveFault.TheVariants as save_fault
-use Rattle.file_commands.specs.Answer.{Answer, max_file, outcome_stored, outcome_told, says, state_image, storing}
+use Rattle.file_commands.specs.OutcomeAnswers.{outcome_stored, outcome_told, state_image, storing}
+use Rattle.file_commands.specs.FileInputs.{max_file}
+use Rattle.file_commands.specs.AnswerForms.{Answer, says}
 use Rattle.file_commands.specs.FueledRoles.{DigestedProgram, FueledRole}
 use Rattle.file_commands.specs.Halting.{InHand, ending_status, of_save_fault}
 use Rattle.file_commands.specs.Storing.{FindsOutput}

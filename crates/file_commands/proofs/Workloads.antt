@@ -20,8 +20,11 @@ use Rattle.value_store.specs.Stores.{nodes_in, store_lent}
 use Rattle.workloads.specs.Workloads.{after_rounds, no_calls}
 use Rattle.workloads.specs.declared.tally.Tally.{Tally}
 use Rattle.workloads.specs.declared.workload.Workload.{Workload}
-use Rattle.file_commands.specs.Answer.{Answer, WorkloadNumbers, first_argument, first_role, max_program, outcome_told, projected_line, says}
-use Rattle.file_commands.specs.Answer.{sums_answer, with_ended_init, with_first, with_outcome, workload_answer}
+use Rattle.file_commands.specs.Answer.{max_program}
+use Rattle.file_commands.specs.WorkloadAnswers.{WorkloadNumbers, first_argument, first_role, sums_answer, with_first, with_outcome, workload_answer}
+use Rattle.file_commands.specs.OutcomeAnswers.{outcome_told, projected_line}
+use Rattle.file_commands.specs.AnswerForms.{Answer, says}
+use Rattle.file_commands.specs.RoleInputs.{with_ended_init}
 use Rattle.file_commands.specs.FueledRoles.{FueledRole, NamedProgram}
 use Rattle.file_commands.specs.Halting.{FindsLines, InHand, TellsLines, ending_status}
 use Rattle.file_commands.specs.RoleCalls.{EndedRole, kind_called, state_made}

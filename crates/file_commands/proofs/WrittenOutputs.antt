@@ -14,7 +14,9 @@ use Rattle.object_writer.specs.declared.fault.WriteFault.{WriteFault}
 use Rattle.object_writer.specs.declared.fault.WriteFault.TheVariants as write_fault
 use Rattle.printed_lines.specs.declared.refusal.InputFault.TheVariants.{ObjectFormat}
 use Rattle.sha2.specs.Sha256.{sha256}
-use Rattle.file_commands.specs.Answer.{Answer, input_refused, object_answer, object_written, stored_object, with_listed, with_program, with_text}
+use Rattle.file_commands.specs.Answer.{object_answer, object_written, stored_object, with_listed}
+use Rattle.file_commands.specs.FileInputs.{with_program, with_text}
+use Rattle.file_commands.specs.AnswerForms.{Answer, input_refused}
 use Rattle.file_commands.specs.FilePrograms.{begins_as_object}
 use Rattle.file_commands.specs.FueledRoles.{ListedProgram}
 use Rattle.file_commands.specs.Halting.{InHand, ending_status, of_write_fault}

@@ -1,218 +1,53 @@
 -- What a run answers: its status, the lines that it writes and the files that it stores.
-use Rattle.std.specs.Prelude.{ℕ, List, [], ◌∷◌, ◌++◌, length, map, Bool, true, false, ◌&&◌, not, bytes_eq, nat_le, codes, Option, Some, None, if◌then◌else◌}
+use Rattle.std.specs.Prelude.{ℕ, List, [], ◌∷◌, ◌++◌, length, map, ◌&&◌, not, bytes_eq, nat_le, Option, Some, None, if◌then◌else◌}
 use Rattle.sha2.specs.Sha256.{sha256}
 use Rattle.command_words.specs.Invocations.{Invocation, invocation_of}
 use Rattle.command_words.specs.declared.command.Command.{Command}
 use Rattle.command_words.specs.declared.command.Command.TheVariants.{Check, Init, Ideal, Step, Shallow, Migrate, Prove, Verify, Audit, Library, Gen, Serve, Ask, Pieces, Fetch, Mirror, Draw, Found, Host, Replay, Emit}
-use Rattle.ads_library.specs.Texts.{library_text}
 use Rattle.lam_outside.specs.Told.{Contents, Stores}
-use Rattle.core_terms.specs.ProgramFormats.{most_kept_pieces}
-use Rattle.core_terms.specs.Types.{Ty, IntTy, PairTy, same_type}
-use Rattle.core_terms.specs.Values.{Value, NoV, AndV}
-use Rattle.core_terms.specs.Reading.{Read, Good, BadAt}
-use Rattle.core_terms.specs.Terms.{Kind, Query, Update, Program, function_at}
-use Rattle.core_terms.specs.Roles.{role_named, argument_type}
+use Rattle.core_terms.specs.Types.{same_type}
+use Rattle.core_terms.specs.Values.{Value}
+use Rattle.core_terms.specs.Terms.{Update, Program}
+use Rattle.core_terms.specs.Roles.{argument_type}
 use Rattle.core_terms.specs.Spelling.{spelling}
-use Rattle.core_terms.specs.Projection.{projection, read_at}
-use Rattle.printed_syntax.specs.Literals.{Literal, IsValue, FirstFault}
-use Rattle.printed_syntax.specs.declared.fault.LiteralKind.TheVariants.{Mismatch}
 use Rattle.ideal_meaning.specs.Ideal as ideal
 use Rattle.ideal_meaning.specs.Checked as checked
-use Rattle.ideal_meaning.specs.Checked.{verdict}
 use Rattle.object_meaning.specs.WrittenObjects.{written}
-use Rattle.images.specs.Images as images
-use Rattle.images.specs.SavedImages.{saved_image}
 use Rattle.piece_mirror.specs.Answers.{given_by}
 use Rattle.piece_mirror.specs.Files.{FileFault, IsCut, IsBad, IsLeftover, Mirrored, Holds, Faulty, mirror_file, read_mirror}
 use Rattle.piece_mirror.specs.Filled.{all_added, pieces_in}
 use Rattle.session_meaning.specs.Server.{Shared, new_server}
-use Rattle.printed_lines.specs.Lines.{agrees_line, calls_line, collision_line, named_done_line, ok_line, out_line, pieces_line, refusal_line, rejected_line, state_line, trap_line}
-use Rattle.printed_lines.specs.declared.refusal.Argument.{Argument}
+use Rattle.printed_lines.specs.Lines.{agrees_line, collision_line, ok_line, pieces_line}
 use Rattle.printed_lines.specs.declared.refusal.Argument.TheVariants as named
-use Rattle.printed_lines.specs.declared.refusal.ImageKind.{ImageKind}
-use Rattle.printed_lines.specs.declared.refusal.ImageKind.TheVariants as kind
-use Rattle.printed_lines.specs.declared.refusal.InputFault.{InputFault}
-use Rattle.printed_lines.specs.declared.refusal.InputFault.TheVariants.{TooLong, LibraryUnknown, Migration, ObjectFormat, RoleUnknown, RoleKind, Number, State, Literal as BadLiteral, Image as BadImage, Mirror as BadMirror, Script as BadScript}
+use Rattle.printed_lines.specs.declared.refusal.InputFault.TheVariants.{TooLong, Migration, ObjectFormat, Number, Mirror as BadMirror, Script as BadScript}
 use Rattle.printed_lines.specs.declared.refusal.MigrationKind.{MigrationKind}
 use Rattle.printed_lines.specs.declared.refusal.MigrationKind.TheVariants as migration
 use Rattle.printed_lines.specs.declared.refusal.MirrorKind.{MirrorKind}
 use Rattle.printed_lines.specs.declared.refusal.MirrorKind.TheVariants as mirror
-use Rattle.printed_lines.specs.declared.refusal.Refusal.{Refusal}
-use Rattle.printed_lines.specs.declared.refusal.Refusal.TheVariants as refusal
 use Rattle.ask_script.specs.Scripts.{Script, Steps, FaultyLine, UserStep, script_of}
 use Rattle.collision_audit.specs.Audits.{Collides, Judges}
 use Rattle.collision_audit.specs.Audits as audits
-use Rattle.workloads.specs.Workloads.{after_rounds, no_calls}
-use Rattle.workloads.specs.declared.tally.Tally.{Tally}
-use Rattle.workloads.specs.declared.workload.Workload.{Workload}
-use Rattle.file_commands.specs.Arguments.{fuel_of, most_links, most_port, most_rounds, most_seed, most_slice, positive_within}
+use Rattle.file_commands.specs.Arguments.{most_links, most_port, most_slice, positive_within}
 use Rattle.number_words.specs.Numbers.{number_within}
 use Rattle.fetched_verdicts.specs.Verdicts.{verdict_over}
-use Rattle.file_commands.specs.FilePrograms.{begins_as_object, constructor_names_of_file, longest_program, program_of_file}
-pub use Rattle.file_commands.specs.FilePrograms.{max_program}
+use Rattle.file_commands.specs.FilePrograms.{begins_as_object}
 use Rattle.file_commands.specs.FueledRoles.{DeclaredProgram, DigestedProgram, FueledRole, ListedProgram, NamedProgram}
-use Rattle.file_commands.specs.IdealCalls.{IdealCall, call_audit, call_proof, call_proof_line, ended_call, projected_outcome}
-use Rattle.file_commands.specs.RoleCalls.{EndedRole, ended_with, is_called, kind_called, passed_literal, program_called, projection_called, result_called, state_made}
-use Rattle.file_commands.specs.TextPrograms.{FileProgram, IsProgram, IsRefused, constructor_names_of_text, constructors_of_text, program_of_text, types_text_of_text}
+use Rattle.file_commands.specs.IdealCalls.{IdealCall, call_audit, call_proof, call_proof_line, projected_outcome}
+use Rattle.file_commands.specs.RoleCalls.{kind_called, program_called, state_made}
+use Rattle.file_commands.specs.TextPrograms.{constructors_of_text}
 use Rattle.file_commands.specs.declared.roles.Callee.{Callee}
 use Rattle.file_commands.specs.declared.roles.Callee.TheVariants as callee
-use Rattle.file_commands.specs.declared.status.Status.{Status}
-use Rattle.file_commands.specs.declared.status.Status.TheVariants.{Done, Usage, Trap, OutOfFuel, Rejected, ProgramRefused, InputRefused, Collision}
-
--- what a run answers
-pub record Answer : Type 0 where
-  pub status : Status
-  pub lines : List (List ℕ)
-  pub stored : Stores
-
--- one line, and nothing stored
-abbrev pub says : Status → List ℕ → Answer
-says status line = record { status = status; lines = line ∷ []; stored = [] }
-
--- what is answered to words that call no command
-abbrev pub usage_answer : Answer
-usage_answer = says Usage (codes "usage: lamauth COMMAND ARGUMENTS\n")
-
--- what is answered to what is refused: a text or an object that is no program, an input, or a proof
-abbrev pub refusal_status : Refusal → Status
-refusal_status (refusal.Program kind line column) = ProgramRefused
-refusal_status (refusal.Object kind) = ProgramRefused
-refusal_status (refusal.Input fault) = InputRefused
-refusal_status (refusal.Proof cause) = Rejected
-
-abbrev pub refused : Refusal → Answer
-refused what = says (refusal_status what) (refusal_line what)
-
-abbrev pub input_refused : InputFault → Answer
-input_refused fault = refused (refusal.Input fault)
-
--- What is answered for a verdict, where this is answered for the outcome that is accepted. Of a call whose state was read, and whose
--- argument is the spelling of a literal's value, it is one on the proof: `VerdictLaws.antt` says that the other two don't come.
-abbrev pub verdict_answer : (ideal.Outcome → Answer) → checked.Verdict → Answer
-verdict_answer told (checked.BadState offset) = input_refused (State offset)
-verdict_answer told (checked.BadArgument offset) = input_refused (BadLiteral Mismatch offset)
-verdict_answer told (checked.Rejected cause) = says Rejected (rejected_line cause)
-verdict_answer told (checked.Accepted o) = told o
-
--- the longest file that is no program
-abbrev pub max_file : ℕ
-max_file = 67108864
-
--- Goes on with the bytes of the file that an argument names. There is no answer where the file isn't there: that is a fault of
--- the outside.
-abbrev pub with_file : ℕ → Argument → Option (List ℕ) → (List ℕ → Option Answer) → Option Answer
-with_file most word None go = None
-with_file most word (Some bytes) go = if nat_le (length bytes) most then go bytes else Some (input_refused (TooLong word))
-
--- the same of a file that may have any length
-abbrev pub with_bytes : Option (List ℕ) → (List ℕ → Option Answer) → Option Answer
-with_bytes None go = None
-with_bytes (Some bytes) go = go bytes
-
--- goes on with the program that bytes with this digest are
-abbrev pub with_program : List ℕ → FileProgram → (DigestedProgram → Option Answer) → Option Answer
-with_program digest (IsProgram P) go = go (record { program = P; digest = digest })
-with_program digest (IsRefused what) go = Some (refused what)
-
--- goes on with the program that a text is
-abbrev pub with_text : List ℕ → (NamedProgram → Option Answer) → Option Answer
-with_text text go =
-    with_program (sha256 text) (program_of_text text) (λ p. go (record { digested = p; names = constructor_names_of_text text }))
-
--- goes on with the bytes of the file `P`, where it isn't too long for what it begins as, an object or a text
-abbrev pub with_program_bytes : Option (List ℕ) → (List ℕ → Option Answer) → Option Answer
-with_program_bytes None go = None
-with_program_bytes (Some bytes) go = if nat_le (length bytes) (longest_program bytes) then go bytes else Some (input_refused (TooLong named.Program))
-
--- goes on with the program that bytes are, as an object or as a text, and with that in the file `P`
-abbrev pub with_object_or_text : List ℕ → (NamedProgram → Option Answer) → Option Answer
-with_object_or_text bytes go =
-    with_program (sha256 bytes) (program_of_file bytes) (λ p. go (record { digested = p; names = constructor_names_of_file bytes }))
-
-abbrev pub with_program_file : Option (List ℕ) → (NamedProgram → Option Answer) → Option Answer
-with_program_file file go = with_program_bytes file (λ bytes. with_object_or_text bytes go)
-
--- the same with the type declarations of a text: a file is read as one, whatever it begins as
-abbrev pub with_declared_file : Argument → Option (List ℕ) → (DeclaredProgram → Option Answer) → Option Answer
-with_declared_file word file go =
-    with_file max_program word file (λ text. with_text text (λ p. go (record { named = p; types_text = types_text_of_text text })))
-
--- goes on with the number that an argument tells
-abbrev pub with_number : Argument → Option ℕ → (ℕ → Option Answer) → Option Answer
-with_number word None go = Some (input_refused (Number word))
-with_number word (Some n) go = go n
-
-abbrev pub with_fuel : List ℕ → (ℕ → Option Answer) → Option Answer
-with_fuel text go = with_number named.Fuel (fuel_of text) go
-
--- goes on with bytes that were read as a state
-abbrev pub with_state_read : Read Value → List ℕ → (List ℕ → Option Answer) → Option Answer
-with_state_read (Good v rest place) bytes go = go bytes
-with_state_read (BadAt offset) bytes go = Some (input_refused (State offset))
-
--- bytes read at the type of the state
-unfoldable pub state_read : Program → List ℕ → Read Value
-state_read P bytes = read_at P P.state bytes
-
--- goes on with the spelling of a state, and with that in a file
-abbrev pub with_state : Program → List ℕ → (List ℕ → Option Answer) → Option Answer
-with_state P bytes go = with_state_read (state_read P bytes) bytes go
-
-abbrev pub with_state_file : Program → Option (List ℕ) → (List ℕ → Option Answer) → Option Answer
-with_state_file P file go = with_file max_file named.State file (λ bytes. with_state P bytes go)
-
--- goes on with the value of a literal
-abbrev pub with_literal : Literal → (Value → Option Answer) → Option Answer
-with_literal (IsValue v) go = go v
-with_literal (FirstFault kind offset) go = Some (input_refused (BadLiteral kind offset))
-
--- why the bytes of an image are refused
-abbrev pub image_kind : images.ImageFault → ImageKind
-image_kind images.Magic = kind.Magic
-image_kind images.OtherProgram = kind.OtherProgram
-image_kind images.RootType = kind.RootType
-image_kind (images.Cut bytes) = kind.Cut bytes
-image_kind (images.Leftover bytes) = kind.Leftover bytes
-image_kind (images.BadRecord number) = kind.BadRecord number
-image_kind (images.TooBig number) = kind.TooBig number
-image_kind (images.TooDeep number) = kind.TooDeep number
-
--- goes on with the ideal state that an image keeps
-abbrev pub with_root : images.Image → (Value → Option Answer) → Option Answer
-with_root (images.Root v) go = go v
-with_root (images.Refused fault) go = Some (input_refused (BadImage (image_kind fault)))
-
--- bytes as an image of a program
-unfoldable pub image_read : DigestedProgram → List ℕ → images.Image
-image_read p bytes = images.image_of p.program p.digest bytes
-
--- goes on with the ideal state in an image, and with that in a file
-abbrev pub with_image : DigestedProgram → List ℕ → (Value → Option Answer) → Option Answer
-with_image p bytes go = with_root (image_read p bytes) go
-
-abbrev pub with_image_file : DigestedProgram → Option (List ℕ) → (Value → Option Answer) → Option Answer
-with_image_file p file go = with_file max_file named.Image file (λ bytes. with_image p bytes go)
-
--- goes on with the bytes of a file that is an image of the program
-abbrev pub with_image_bytes : DigestedProgram → Option (List ℕ) → (List ℕ → Option Answer) → Option Answer
-with_image_bytes p file go = with_file max_file named.Image file (λ bytes. with_image p bytes (λ v. go bytes))
+use Rattle.file_commands.specs.declared.status.Status.TheVariants.{Done, Collision}
+use Rattle.file_commands.specs.AnswerForms.{Answer, input_refused, says, usage_answer, verdict_answer}
+use Rattle.file_commands.specs.FileInputs.{max_file, with_bytes, with_declared_file, with_file, with_image_bytes, with_image_file, with_number, with_program_bytes, with_program_file, with_state_file, with_text}
+use Rattle.file_commands.specs.RoleInputs.{RoleCall, role_verdict, with_ended_call, with_ended_init, with_fueled_role, with_ideal_call, with_role_call}
+use Rattle.file_commands.specs.OutcomeAnswers.{projected_line, role_answer, shallow_told, state_answer, storing, storing_answer}
+pub use Rattle.file_commands.specs.FilePrograms.{max_program}
+use Rattle.file_commands.specs.WorkloadAnswers.{generated_answer, library_answer}
 
 -- `check P`: the digest of the program's bytes
 abbrev pub checked_answer : List ℕ → Contents → Option Answer
 checked_answer program files = with_program_file (files program) (λ p. Some (says Done (ok_line p.digested.digest)))
-
--- the projection of an ideal state: a digest stands for what is authenticated
-unfoldable pub state_projection : Program → Value → Value
-state_projection P v = projection sha256 P P.state v
-
--- the line of the projection of an ideal state: its value, with the names of its constructors
-abbrev pub projected_line : NamedProgram → Value → List ℕ
-projected_line p v = let P = p.digested.program in state_line P.types p.names P.state (state_projection P v)
-
--- what is answered for an ideal state whose projection is told, and its spelling stored under a name
-abbrev pub state_answer : NamedProgram → Value → List ℕ → Answer
-state_answer p v name =
-    record { status = Done; lines = projected_line p v ∷ []; stored = (name, spelling (state_projection p.digested.program v)) ∷ [] }
 
 -- `shallow P IMG OUT`: the projection of the state that an image keeps
 abbrev pub spelled_answer : (program image out : List ℕ) → Contents → Option Answer
@@ -266,99 +101,6 @@ object_answer p name = if p.program.format.arrays then input_refused ObjectForma
 -- `emit P OUT`: the object of a text's program
 abbrev pub emitted_answer : (program out : List ℕ) → Contents → Option Answer
 emitted_answer program out files = with_listed_file (files program) (λ p. Some (object_answer p out))
-
--- goes on with the role of this number, where it is one that the command calls
-abbrev pub with_role_at : Callee → Program → Option ℕ → (ℕ → Option Answer) → Option Answer
-with_role_at callee P None go = Some (input_refused RoleUnknown)
-with_role_at callee P (Some f) go = if is_called callee (function_at P f).kind then go f else Some (input_refused RoleKind)
-
-abbrev pub with_role : Callee → Program → List ℕ → (ℕ → Option Answer) → Option Answer
-with_role callee P name go = with_role_at callee P (role_named P name) go
-
--- goes on with the role of this name, and then with the fuel
-abbrev pub with_fueled_role : Callee → NamedProgram → (role fuel : List ℕ) → (FueledRole → Option Answer) → Option Answer
-with_fueled_role callee p role fuel go =
-    with_role callee p.digested.program role (λ f.
-    with_fuel fuel (λ k.
-    go (record { program = p; role = f; fuel = k })))
-
--- goes on with the value of what is passed to a role
-abbrev pub with_passed : FueledRole → List ℕ → (Value → Option Answer) → Option Answer
-with_passed r text go = with_literal (passed_literal r text) go
-
--- a call of a query or an update, with the spellings of its state and argument
-pub record RoleCall : Type 0 where
-  pub role : FueledRole
-  pub state : List ℕ
-  pub argument : List ℕ
-
--- goes on with the call of a role on the state that a file spells, and then on what is passed to it
-abbrev pub with_role_call : FueledRole → (state argument : List ℕ) → Contents → (RoleCall → Option Answer) → Option Answer
-with_role_call r state argument files go =
-    with_state_file (program_called r) (files state) (λ s.
-    with_passed r argument (λ a.
-    go (record { role = r; state = s; argument = spelling a })))
-
--- the verdict on a proof of a call
-unfoldable pub role_verdict : RoleCall → List ℕ → checked.Verdict
-role_verdict call proof =
-    let r = call.role in
-    let P = program_called r in
-    verdict sha256 P (argument_type P r.role) r.role call.state call.argument r.fuel proof
-
--- goes on with an init that was called, and how it ended: the role, the fuel and the argument in this order
-abbrev pub with_ended_init : NamedProgram → (role argument fuel : List ℕ) → (EndedRole → Option Answer) → Option Answer
-with_ended_init p role argument fuel go =
-    with_fueled_role callee.Init p role fuel (λ r.
-    with_passed r argument (λ a.
-    go (ended_with r (AndV a NoV))))
-
--- goes on with the call of a role on the ideal state that an image keeps, and then on what is passed to it
-abbrev pub with_ideal_call : FueledRole → (image argument : List ℕ) → Contents → (IdealCall → Option Answer) → Option Answer
-with_ideal_call r image argument files go =
-    with_image_file r.program.digested (files image) (λ s.
-    with_passed r argument (λ a.
-    go (record { role = r; state = s; argument = a })))
-
--- the same of a role that a command calls, and how the call ended
-abbrev pub with_ended_call : Callee → NamedProgram → (role image argument fuel : List ℕ) → Contents → (EndedRole → Option Answer) → Option Answer
-with_ended_call callee p role image argument fuel files go =
-    with_fueled_role callee p role fuel (λ r.
-    with_ideal_call r image argument files (λ call.
-    go (ended_call call)))
-
--- what is answered for an outcome in projection: its value, with the names of its constructors
-abbrev pub shallow_told : FueledRole → ideal.Outcome → Answer
-shallow_told r (ideal.Done v) = says Done (named_done_line (program_called r).types r.program.names (result_called r) v)
-shallow_told r (ideal.Trapped trap) = says Trap (trap_line trap)
-shallow_told r ideal.Out = says OutOfFuel out_line
-
--- what is answered for a role that was called: of a value its projection
-abbrev pub outcome_told : FueledRole → ideal.Outcome → Answer
-outcome_told r (ideal.Done v) = shallow_told r (ideal.Done (projection_called r v))
-outcome_told r (ideal.Trapped trap) = shallow_told r (ideal.Trapped trap)
-outcome_told r ideal.Out = shallow_told r ideal.Out
-
-abbrev pub role_answer : EndedRole → Answer
-role_answer ended = outcome_told ended.role ended.outcome
-
--- the image of a state
-unfoldable pub state_image : DigestedProgram → Value → List ℕ
-state_image p v = saved_image p.program p.digest v
-
--- the same answer with the image of a state stored under a name, where it isn't too long to be stored
-abbrev pub storing : DigestedProgram → Value → List ℕ → Answer → Answer
-storing p state name a =
-    let image = state_image p state in
-    if nat_le (length image) max_file then record a { stored = (name, image) ∷ [] } else input_refused (TooLong named.Out)
-
--- what is answered where the state that was made is stored
-abbrev pub outcome_stored : FueledRole → ideal.Outcome → List ℕ → Answer
-outcome_stored r (ideal.Done v) name = storing r.program.digested (state_made (kind_called r) v) name (outcome_told r (ideal.Done v))
-outcome_stored r o name = outcome_told r o
-
-abbrev pub storing_answer : EndedRole → List ℕ → Answer
-storing_answer ended name = outcome_stored ended.role ended.outcome name
 
 -- Why no state of a program is moved to another, where it isn't: the other's format has arrays and the one's has none; both declare the same
 -- types, by the same names, and have the same type of state.
@@ -514,109 +256,6 @@ audited_answer program role image argument fuel proof files =
     with_fueled_role callee.OfState p role fuel (λ r.
     with_ideal_call r image argument files (λ call.
     with_bytes (files proof) (λ bytes. Some (call_audit_answer call bytes)))))
-
--- goes on with the text of a program of the library
-abbrev pub with_source : Option (List ℕ) → (List ℕ → Option Answer) → Option Answer
-with_source None go = Some (input_refused LibraryUnknown)
-with_source (Some text) go = go text
-
--- `library NAME`: the text of this program of the library, unchanged
-abbrev pub library_answer : (name : List ℕ) → Contents → Option Answer
-library_answer name files = with_source (library_text name) (λ text. Some (says Done text))
-
--- the numbers of a workload: the seed, how many rounds it has, and how many pieces each proof asks to be kept
-pub record WorkloadNumbers : Type 0 where
-  pub seed : ℕ
-  pub rounds : ℕ
-  pub kept : ℕ
-
-abbrev pub with_numbers : (seed count kept : List ℕ) → (WorkloadNumbers → Option Answer) → Option Answer
-with_numbers seed count kept go =
-    with_number named.Seed (number_within most_seed seed) (λ x.
-    with_number named.Count (number_within most_rounds count) (λ rounds.
-    with_number named.Number (number_within most_kept_pieces kept) (λ n.
-    go (record { seed = x; rounds = rounds; kept = n }))))
-
--- what a workload gets by: an int; and what it puts: two of them, the key and the value
-abbrev pub is_key : Ty → Bool
-is_key IntTy = true
-is_key t = false
-
-abbrev pub is_entry : Ty → Bool
-is_entry (PairTy a b) = if is_key a then is_key b else false
-is_entry t = false
-
--- a workload puts by an update on an entry, and gets by a query on a key
-abbrev pub is_put : Kind → Ty → Bool
-is_put Update t = is_entry t
-is_put kind t = false
-
-abbrev pub is_get : Kind → Ty → Bool
-is_get Query t = is_key t
-is_get kind t = false
-
--- goes on with the query or the update of this name, where its kind and the type of its argument pass the test
-abbrev pub with_shape : (Kind → Ty → Bool) → Program → ℕ → (ℕ → Option Answer) → Option Answer
-with_shape test P f go = if test (function_at P f).kind (argument_type P f) then go f else Some (input_refused RoleKind)
-
-abbrev pub with_shaped_role : (Kind → Ty → Bool) → Program → List ℕ → (ℕ → Option Answer) → Option Answer
-with_shaped_role test P name go = with_role callee.OfState P name (λ f. with_shape test P f go)
-
--- how many keys a workload on a program of the library has, by its name
-abbrev pub keys_of : List ℕ → ℕ
-keys_of name = if bytes_eq name (codes "merkle") then 1024 else 1000000
-
--- goes on with what a workload calls: the update `put` and the query `get`
-abbrev pub with_workload : Program → (name : List ℕ) → (kept : ℕ) → (Workload → Option Answer) → Option Answer
-with_workload P name n go =
-    with_shaped_role is_put P (codes "put") (λ put.
-    with_shaped_role is_get P (codes "get") (λ get.
-    go (record { put = record { 0 = put }; get = record { 0 = get }; keys = keys_of name; kept = n })))
-
--- the init that makes the first state of a workload, and what is passed to it: of `merkle` the depth of the tree and the value of each leaf
-abbrev pub first_role : List ℕ → List ℕ
-first_role name = if bytes_eq name (codes "merkle") then codes "make" else codes "empty"
-
-abbrev pub first_argument : List ℕ → List ℕ
-first_argument name = if bytes_eq name (codes "merkle") then codes "(10, 0)" else codes "()"
-
-abbrev pub with_first : NamedProgram → (name : List ℕ) → (EndedRole → Option Answer) → Option Answer
-with_first p name go = with_ended_init p (first_role name) (first_argument name) (codes "1000000") go
-
--- goes on with the state that was made, and tells an outcome without one
-abbrev pub with_outcome : FueledRole → ideal.Outcome → (Value → Option Answer) → Option Answer
-with_outcome r (ideal.Done v) go = go (state_made (kind_called r) v)
-with_outcome r (ideal.Trapped trap) go = Some (outcome_told r (ideal.Trapped trap))
-with_outcome r ideal.Out go = Some (outcome_told r ideal.Out)
-
--- what is answered for the sums over the calls of a workload, and for its last state
-abbrev pub sums_answer : NamedProgram → Tally → Value → Answer
-sums_answer p t s = record {
-  status = Done;
-  lines = calls_line t.calls t.done t.fresh t.again t.bytes ∷ projected_line p s ∷ [];
-  stored = [];
-}
-
--- the same for a workload from a state on
-abbrev pub workload_answer : NamedProgram → WorkloadNumbers → Workload → Value → Answer
-workload_answer p numbers w s =
-    let last = after_rounds sha256 p.digested.program w numbers.rounds numbers.seed s no_calls in
-    sums_answer p last.0 last.1
-
--- what is answered for a workload on a program of the library
-abbrev pub generated_by : NamedProgram → (name : List ℕ) → WorkloadNumbers → Option Answer
-generated_by p name numbers =
-    with_workload p.digested.program name numbers.kept (λ w.
-    with_first p name (λ ended.
-    with_outcome ended.role ended.outcome (λ s. Some (workload_answer p numbers w s))))
-
--- `gen NAME SEED COUNT N`: a workload of COUNT rounds, each a put and a get, on the program of the library. The numbers are judged before
--- its text is read.
-abbrev pub generated_answer : (name seed count kept : List ℕ) → Contents → Option Answer
-generated_answer name seed count kept files =
-    with_source (library_text name) (λ text.
-    with_numbers seed count kept (λ numbers.
-    with_text text (λ p. generated_by p name numbers)))
 
 -- the numbers of a serving: the port that is listened to, the number of links that are served, and the greatest number of calls of functions in
 -- a turn

@@ -7,7 +7,10 @@ use Rattle.core_terms.specs.declared.program.Program.{Program}
 use Rattle.value_store.specs.Markings.{HasLimit}
 use Rattle.value_store.specs.Standing.{StandsFor}
 use Rattle.value_store.specs.Stores.{nodes_in, store_lent}
-use Rattle.file_commands.specs.Answer.{Answer, call_audit_answer, proof_answer, with_bytes, with_fueled_role, with_ideal_call, with_kept}
+use Rattle.file_commands.specs.Answer.{call_audit_answer, proof_answer, with_kept}
+use Rattle.file_commands.specs.RoleInputs.{with_fueled_role, with_ideal_call}
+use Rattle.file_commands.specs.FileInputs.{with_bytes}
+use Rattle.file_commands.specs.AnswerForms.{Answer}
 use Rattle.file_commands.specs.FueledRoles.{NamedProgram}
 use Rattle.file_commands.specs.IdealCalls as def
 use Rattle.file_commands.specs.RoleCalls.{program_called}

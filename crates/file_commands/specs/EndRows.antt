@@ -7,7 +7,7 @@ use Rattle.std.specs.declared.alloc.Global.{Global}
 use Rattle.std.proofs.Common.{arith, inl, inr, lit≤, subst}
 use Rattle.lam_outside.specs.Causes.{Rose}
 use Rattle.lam_outside.specs.Told.{AddsStores, Contents, Stores}
-use Rattle.file_commands.specs.Answer.{Answer}
+use Rattle.file_commands.specs.AnswerForms.{Answer}
 use Rattle.file_commands.specs.Codes.{code}
 use Rattle.file_commands.specs.Ending.{EndsAnswered, EndsAs, EndsInNoMemory, EndsInReadFault, EndsInWriteFault, EndsOnSink, FailsToStore, FailsToWrite, IsOfFault, IsOfRefused, IsToldAs, IsToldByCode, MayWrite, NoneRose, Outside, StoresSome, WritesPart, lines_of, no_memory_text, with_sink}
 use Rattle.file_commands.specs.Halting.{HaltsAs, ending_status}

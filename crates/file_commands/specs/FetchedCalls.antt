@@ -19,7 +19,8 @@ use Rattle.printed_lines.specs.declared.refusal.Refusal.TheVariants as refusal
 use Rattle.printed_lines.specs.declared.refusal.Rejection.{Rejection}
 use Rattle.printed_lines.specs.declared.refusal.Rejection.TheVariants as rejection
 use Rattle.printed_syntax.specs.declared.fault.LiteralKind.TheVariants.{Mismatch}
-use Rattle.file_commands.specs.Answer.{Answer, mirrored_answer, with_mirror_file}
+use Rattle.file_commands.specs.Answer.{mirrored_answer, with_mirror_file}
+use Rattle.file_commands.specs.AnswerForms.{Answer}
 use Rattle.file_commands.specs.FueledRoles.{FueledRole, NamedProgram}
 use Rattle.file_commands.specs.Halting.{Found}
 use Rattle.file_commands.specs.Reporting.{Reports}

@@ -15,10 +15,12 @@ use Rattle.printed_lines.specs.declared.refusal.Rejection.{Rejection}
 use Rattle.printed_syntax.specs.declared.fault.LiteralKind.TheVariants.{Mismatch}
 use Rattle.prover_mode.specs.declared.proving.Proved.{Proved}
 use Rattle.verifier_mode.specs.declared.verdict.Verdict.TheVariants as verdict
-use Rattle.file_commands.specs.Answer.{Answer, agreeing, refusal_status, says, shallow_told}
+use Rattle.file_commands.specs.Answer.{agreeing}
+use Rattle.file_commands.specs.OutcomeAnswers.{shallow_told}
+use Rattle.file_commands.specs.AnswerForms.{Answer, refusal_status, says}
 use Rattle.file_commands.specs.Arguments.{fuel_of, most_links, most_port, most_rounds, most_seed, most_slice, positive, positive_within}
 use Rattle.file_commands.specs.FueledRoles.{FueledRole}
-use Rattle.file_commands.specs.Halting.{Finds, FindsLines, Found, GoesOn, GoesOnFor, HaltCause, HaltsAs, InHand, JudgementCause, MayHalt, MayHaltJudging, TellsLines, WithoutFiles, ending_status, halt_line}
+use Rattle.file_commands.specs.Halting.{Finds, FindsLines, Found, StepGives, StepGivesFor, HaltCause, HaltsAs, InHand, JudgementCause, MayHalt, MayHaltJudging, TellsLines, WithoutFiles, ending_status, halt_line}
 use Rattle.file_commands.specs.VerdictHalts.{of_verdict}
 use Rattle.file_commands.specs.Reporting.{IsToldOf, Reports, ReportsAgreement, ReportsProof}
 use Rattle.file_commands.specs.RoleCalls.{program_called, result_called}
@@ -75,11 +77,11 @@ in_hand Says report cause = ((λ i. i), (λ i. i), (λ i. i), (λ i. i))
 
 -- A step gives the value that the answer goes on with, or halts, whatever it goes on with.
 module _ (step : (ℕ → Option Answer) → Option Answer) (n : ℕ) (halt : Halt) where
-  pub goes_on : (GoesOn step (λ (n : ℕ). n) (Ok n) → (go : ℕ → Option Answer) → step go ≡ go n) × (GoesOn {T = ℕ} step (λ n. n) (Err halt) → (go : ℕ → Option Answer) → HaltsAs (step go) halt)
+  pub goes_on : (StepGives step (λ (n : ℕ). n) (Ok n) → (go : ℕ → Option Answer) → step go ≡ go n) × (StepGives {T = ℕ} step (λ n. n) (Err halt) → (go : ℕ → Option Answer) → HaltsAs (step go) halt)
   goes_on = ((λ g. g), (λ g. g))
 
-  pub goes_on_for : (GoesOnFor step (λ (t a : ℕ). t ≡ a) (Ok n) → (a : ℕ) × ((go : ℕ → Option Answer) → step go ≡ go a) × (n ≡ a))
-      × (GoesOnFor {T = ℕ} step (λ t a. t ≡ a) (Err halt) → (go : ℕ → Option Answer) → HaltsAs (step go) halt)
+  pub goes_on_for : (StepGivesFor step (λ (t a : ℕ). t ≡ a) (Ok n) → (a : ℕ) × ((go : ℕ → Option Answer) → step go ≡ go a) × (n ≡ a))
+      × (StepGivesFor {T = ℕ} step (λ t a. t ≡ a) (Err halt) → (go : ℕ → Option Answer) → HaltsAs (step go) halt)
   goes_on_for = ((λ g. g), (λ g. g))
 
 -- COUNTS

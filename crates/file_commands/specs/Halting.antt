@@ -22,7 +22,7 @@ use Rattle.piece_mirror.specs.declared.fault.MirrorFault.{MirrorFault}
 use Rattle.piece_mirror.specs.declared.fault.MirrorFault.TheVariants as mirror_fault
 use Rattle.collision_audit.specs.declared.audited.AuditFault.{AuditFault}
 use Rattle.collision_audit.specs.declared.audited.AuditFault.TheVariants as audit_fault
-use Rattle.file_commands.specs.Answer.{Answer, says, refusal_status}
+use Rattle.file_commands.specs.AnswerForms.{Answer, says, refusal_status}
 use Rattle.file_commands.specs.declared.programs.ProgramFault.{ProgramFault}
 use Rattle.file_commands.specs.declared.programs.ProgramFault.TheVariants as program_fault
 use Rattle.file_commands.specs.declared.report.Ending.{Ending}
@@ -143,14 +143,14 @@ InHand Says (Err (Refused (refusal.Proof cause))) = ⊥
 InHand Says found = WithoutFiles Says found
 
 -- A step of the work. Whatever the answer goes on with behind it: the step gives the value that it goes on with, or halts.
-abbrev pub GoesOn : {A T : Type 0} → ((A → Option Answer) → Option Answer) → (T → A) → Result T Halt → Type 0
-GoesOn {A = A} step value (Ok t) = (go : A → Option Answer) → step go ≡ go (value t)
-GoesOn {A = A} step value (Err halt) = (go : A → Option Answer) → HaltsAs (step go) halt
+abbrev pub StepGives : {A T : Type 0} → ((A → Option Answer) → Option Answer) → (T → A) → Result T Halt → Type 0
+StepGives {A = A} step value (Ok t) = (go : A → Option Answer) → step go ≡ go (value t)
+StepGives {A = A} step value (Err halt) = (go : A → Option Answer) → HaltsAs (step go) halt
 
 -- A step that gives what stands for the value that the answer goes on with, or halts.
-abbrev pub GoesOnFor : {A T : Type 0} → ((A → Option Answer) → Option Answer) → (T → A → Type 0) → Result T Halt → Type 0
-GoesOnFor {A = A} step Stands (Ok t) = (a : A) × ((go : A → Option Answer) → step go ≡ go a) × Stands t a
-GoesOnFor {A = A} step Stands (Err halt) = (go : A → Option Answer) → HaltsAs (step go) halt
+abbrev pub StepGivesFor : {A T : Type 0} → ((A → Option Answer) → Option Answer) → (T → A → Type 0) → Result T Halt → Type 0
+StepGivesFor {A = A} step Stands (Ok t) = (a : A) × ((go : A → Option Answer) → step go ≡ go a) × Stands t a
+StepGivesFor {A = A} step Stands (Err halt) = (go : A → Option Answer) → HaltsAs (step go) halt
 
 -- What may halt work on a call and a proof: the count of reads rose at `ReadFault` and nowhere else.
 abbrev pub MayHaltJudging : ℕ → ℕ → Halt → Type 0

@@ -6,7 +6,7 @@ use Rattle.core_terms.specs.Roles.{argument_type}
 use Rattle.core_terms.specs.Terms.{Program}
 use Rattle.ideal_meaning.specs.Ideal.{Outcome, bytes_of, honest_pieces, outcome_projection}
 use Rattle.ideal_meaning.specs.Frames.{Frame, New, Use, honest_frames, proof_file}
-use Rattle.ideal_meaning.specs.Headline.{call_of}
+use Rattle.ideal_meaning.specs.Headline.{call_values}
 use Rattle.printed_lines.specs.Lines.{proof_line}
 use Rattle.collision_audit.specs.Audits.{Audit, audit_of}
 use Rattle.file_commands.specs.FueledRoles.{FueledRole}
@@ -23,7 +23,7 @@ called_program call = program_called call.role
 
 -- the values that its function is called with
 abbrev pub values_called : IdealCall → Values
-values_called call = call_of call.state call.argument
+values_called call = call_values call.state call.argument
 
 -- the role, and how it ends
 abbrev pub ended_call : IdealCall → EndedRole

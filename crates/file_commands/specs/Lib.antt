@@ -39,3 +39,8 @@ pub mod TrueFetches
 pub mod TrueLines
 pub mod VerdictLaws
 pub mod VerdictHalts
+pub mod AnswerForms
+pub mod FileInputs
+pub mod RoleInputs
+pub mod OutcomeAnswers
+pub mod WorkloadAnswers

@@ -14,7 +14,7 @@ use Rattle.core_terms.specs.Terms.{Program}
 use Rattle.core_terms.specs.Typing.{is_shaped, is_typed}
 use Rattle.core_terms.specs.Values.{IsIdeal, Value}
 use Rattle.ideal_meaning.specs.Frames.{header, offered, offered_pieces}
-use Rattle.ideal_meaning.specs.Headline.{TrueOrSplit, call_of}
+use Rattle.ideal_meaning.specs.Headline.{TrueOrSplit, call_values}
 use Rattle.ideal_meaning.specs.Ideal.{Outcome}
 use Rattle.lam_outside.specs.Told.{AddsStores, Contents}
 use Rattle.printed_syntax.specs.Literals.{IsValue}
@@ -89,5 +89,5 @@ module _ (line : List (List ℕ)) (files : Contents) (r : FueledRole) (state arg
       → let P = program_called r in
       (o : Outcome) × (new.written ≡ append_known old.written (concat (accepted_answer r out o).lines)) × AddsStores old.stores new.stores (accepted_answer r out o).stored
       × ((n : ℕ) × (header P.format proof ≡ Some n)
-      × TrueOrSplit sha256 P r.role (result_called r) (call_of state argument) r.fuel (offered_pieces (offered P.format.limit (drop 6 proof) n [])) o)
+      × TrueOrSplit sha256 P r.role (result_called r) (call_values state argument) r.fuel (offered_pieces (offered P.format.limit (drop 6 proof) n [])) o)
   line_is_true old new number is called tells = is r state argument proof out called tells

@@ -7,7 +7,7 @@ use Rattle.core_terms.specs.Terms.{Program}
 use Rattle.core_terms.specs.Values.{Value}
 use Rattle.printed_syntax.specs.Literals.{IsValue}
 use Rattle.images.specs.Images.{Root}
-use Rattle.file_commands.specs.Answer.{image_read, max_file}
+use Rattle.file_commands.specs.FileInputs.{image_read, max_file}
 use Rattle.file_commands.specs.Arguments.{fuel_of}
 use Rattle.file_commands.specs.FilePrograms.{constructor_names_of_file, longest_program, program_of_file}
 use Rattle.file_commands.specs.FueledRoles.{DigestedProgram, FueledRole, NamedProgram}

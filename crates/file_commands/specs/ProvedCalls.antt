@@ -7,7 +7,9 @@ use Rattle.command_words.specs.declared.command.Command.TheVariants.{Prove}
 use Rattle.lam_outside.specs.Told.{Contents, AddsStores}
 use Rattle.core_terms.specs.Spelling.{spelling}
 use Rattle.ideal_meaning.specs.Checked.{Accepted}
-use Rattle.file_commands.specs.Answer.{RoleCall, accepted_answer, callee_of, judged_answer, role_verdict, shallow_told, state_projection}
+use Rattle.file_commands.specs.Answer.{accepted_answer, callee_of, judged_answer}
+use Rattle.file_commands.specs.OutcomeAnswers.{shallow_told, state_projection}
+use Rattle.file_commands.specs.RoleInputs.{RoleCall, role_verdict}
 use Rattle.number_words.specs.Numbers.{number_within}
 use Rattle.file_commands.specs.Ending.{Outside}
 use Rattle.file_commands.specs.IdealCalls.{IdealCall, call_proof, call_proof_line, called_program, projected_outcome}

@@ -5,7 +5,7 @@ use Rattle.std.proofs.Common.{subst}
 use Rattle.command_words.specs.declared.command.Command.{Command}
 use Rattle.command_words.specs.declared.command.Command.TheVariants.{Check, Init, Ideal, Step, Shallow, Migrate, Prove, Verify, Audit, Library, Gen, Serve, Ask, Pieces, Fetch, Mirror, Draw, Found, Host, Replay, Emit}
 use Rattle.lam_outside.specs.Told.{Contents, Names}
-use Rattle.file_commands.specs.Answer.{Answer}
+use Rattle.file_commands.specs.AnswerForms.{Answer}
 use Rattle.file_commands.specs.EndRows.{answer, answers}
 use Rattle.file_commands.specs.Reaching.{FaultsAt, FaultsAtReached, HaltsAt, HaltsAtReached, IsLast, IsReached, ReachedAt, without}
 use Rattle.file_commands.specs.Statuses.{JudgesAProof, MayAnswer, ReadsAProgram, ReadsFiles, RunsAFunction}

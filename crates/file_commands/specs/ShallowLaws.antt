@@ -2,7 +2,8 @@
 use Rattle.std.specs.Prelude.{◌≡◌, ℕ, List, [], ◌∷◌, Option, Some}
 use Rattle.command_words.specs.Invocations.{Invocation}
 use Rattle.lam_outside.specs.Told.{Contents}
-use Rattle.file_commands.specs.Answer.{Answer, spelled_answer}
+use Rattle.file_commands.specs.Answer.{spelled_answer}
+use Rattle.file_commands.specs.AnswerForms.{Answer}
 use Rattle.file_commands.specs.IdealCalls.{IdealCall}
 use Rattle.file_commands.specs.ProvedCalls.{CallsProve, client_call}
 use Rattle.file_commands.specs.declared.status.Status.TheVariants.{Done}

@@ -4,7 +4,7 @@ use Rattle.std.specs.List.{concat}
 use Rattle.std.specs.declared.alloc.Global.{Global}
 use Rattle.lam_outside.specs.Causes.{Rose}
 use Rattle.lam_outside.specs.Told.{Stores, AddsStores}
-use Rattle.file_commands.specs.Answer.{Answer}
+use Rattle.file_commands.specs.AnswerForms.{Answer}
 use Rattle.file_commands.specs.Halting.{HaltsAs, ending_status, halt_status}
 use Rattle.file_commands.specs.Telling.{Tells}
 use Rattle.file_commands.specs.declared.report.Halt.{Halt}

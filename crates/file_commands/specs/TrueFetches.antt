@@ -14,11 +14,12 @@ use Rattle.printed_syntax.specs.Literals.{IsValue}
 use Rattle.ideal_meaning.specs.Checked.{Accepted}
 use Rattle.ideal_meaning.specs.Fetched.{Got, TrueFromOrSplit, answered}
 use Rattle.ideal_meaning.specs.Frames.{offered_pieces}
-use Rattle.ideal_meaning.specs.Headline.{call_of}
+use Rattle.ideal_meaning.specs.Headline.{call_values}
 use Rattle.ideal_meaning.specs.Ideal.{Outcome}
 use Rattle.piece_mirror.specs.Files.{Holds}
 use Rattle.piece_mirror.specs.Answers.{given_by}
-use Rattle.file_commands.specs.Answer.{mirror_read, shallow_told}
+use Rattle.file_commands.specs.Answer.{mirror_read}
+use Rattle.file_commands.specs.OutcomeAnswers.{shallow_told}
 use Rattle.file_commands.specs.Arguments.{fuel_of}
 use Rattle.file_commands.specs.Ending.{Outside}
 use Rattle.fetched_verdicts.specs.Verdicts.{AreAnswersOf}
@@ -65,4 +66,4 @@ IsTrueFetch line files old new number =
     (r : FueledRole) (state argument : Value) (pieces : List (List ℕ)) → CallsFetch line files r state argument pieces → TellsOutcome number
     → (o : Outcome) × (new.written ≡ append_known old.written (concat (shallow_told r o).lines)) × AddsStores old.stores new.stores []
     × ((answers : List Got) × AreAnswersOf sha256 (given_by sha256 pieces) answers (Accepted o)
-    × TrueFromOrSplit sha256 (program_called r) r.role (result_called r) (call_of state argument) r.fuel (offered_pieces (answered answers)) [] o)
+    × TrueFromOrSplit sha256 (program_called r) r.role (result_called r) (call_values state argument) r.fuel (offered_pieces (answered answers)) [] o)

@@ -13,7 +13,7 @@ use Rattle.core_terms.specs.Roles.{argument_type, role_named}
 use Rattle.printed_syntax.specs.Literals.{IsValue}
 use Rattle.ideal_meaning.specs.Ideal.{Outcome}
 use Rattle.ideal_meaning.specs.Frames.{offered, offered_pieces, header}
-use Rattle.ideal_meaning.specs.Headline.{TrueOrSplit, call_of}
+use Rattle.ideal_meaning.specs.Headline.{TrueOrSplit, call_values}
 use Rattle.file_commands.specs.Answer.{accepted_answer, callee_of}
 use Rattle.file_commands.specs.Arguments.{fuel_of}
 use Rattle.file_commands.specs.Ending.{Outside}
@@ -65,4 +65,4 @@ IsTrueLine line files old new number =
     → let P = program_called r in
     (o : Outcome) × (new.written ≡ append_known old.written (concat (accepted_answer r out o).lines)) × AddsStores old.stores new.stores (accepted_answer r out o).stored
     × ((n : ℕ) × (header P.format proof ≡ Some n)
-    × TrueOrSplit sha256 P r.role (result_called r) (call_of state argument) r.fuel (offered_pieces (offered P.format.limit (drop 6 proof) n [])) o)
+    × TrueOrSplit sha256 P r.role (result_called r) (call_values state argument) r.fuel (offered_pieces (offered P.format.limit (drop 6 proof) n [])) o)

@@ -6,7 +6,8 @@ use Rattle.core_terms.specs.Spelling.{spelling}
 use Rattle.core_terms.specs.Values.{Value}
 use Rattle.printed_syntax.specs.Literals.{IsValue}
 use Rattle.collision_audit.specs.Audits.{IsOnProof}
-use Rattle.file_commands.specs.Answer.{role_verdict, state_read}
+use Rattle.file_commands.specs.RoleInputs.{role_verdict}
+use Rattle.file_commands.specs.FileInputs.{state_read}
 use Rattle.file_commands.specs.FilePrograms.{program_of_file}
 use Rattle.file_commands.specs.FueledRoles.{FueledRole}
 use Rattle.file_commands.specs.RoleCalls.{kind_called, passed_literal, program_called}

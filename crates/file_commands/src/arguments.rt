@@ -1,9 +1,10 @@
 // Arguments that are numbers.
 ghost use Rattle.std.specs.Prelude.{◌≡◌, ◌≤◌, ◌^◌, IfOk};
 ghost use Rattle.core_terms.specs.Programs.{meaning};
-ghost use Rattle.file_commands.specs.Answer.{with_fuel, with_kept, with_number};
+ghost use Rattle.file_commands.specs.Answer.{with_kept};
+ghost use Rattle.file_commands.specs.FileInputs.{with_fuel, with_number};
 ghost use Rattle.file_commands.specs.Arguments.{positive_within};
-ghost use Rattle.file_commands.specs.Halting.{GoesOn, InHand};
+ghost use Rattle.file_commands.specs.Halting.{StepGives, InHand};
 ghost use Rattle.number_words.specs.Numbers.{number_within};
 
 use crate::Halt;
@@ -13,7 +14,7 @@ use printed_lines::refusal::{Argument, InputFault};
 
 /// The amount of fuel that a text tells.
 pub fn fuel_named(text: &str) -> Result<u64, Halt>
-    ensures goes { InHand (GoesOn (with_fuel text.now) (λ k. k)) result }
+    ensures goes { InHand (StepGives (with_fuel text.now) (λ k. k)) result }
     ensures fits { IfOk result (λ k. k ≤ 10 ^ 12) }
 {
     number_named(text, Argument::Fuel, MOST_FUEL)
@@ -21,7 +22,7 @@ pub fn fuel_named(text: &str) -> Result<u64, Halt>
 
 /// The number of pieces to be kept that a text tells, in a proof of a call of the program.
 pub fn kept_named(program: &Program, text: &str) -> Result<u16, Halt>
-    ensures goes { InHand (GoesOn (with_kept (meaning program.now) text.now) (λ n. n)) result }
+    ensures goes { InHand (StepGives (with_kept (meaning program.now) text.now) (λ n. n)) result }
     ensures fits { IfOk result (λ n. n ≤ 1024) }
 {
     let most = program.types().most_kept();
@@ -34,7 +35,7 @@ const MOST_FUEL: u64 = 1_000_000_000_000;
 
 /// The number that a text tells for an argument, where it is at most the greatest.
 pub fn number_named(text: &str, argument: Argument, most: u64) -> Result<u64, Halt>
-    ensures goes { InHand (GoesOn (with_number argument (number_within most text.now)) (λ n. n)) result }
+    ensures goes { InHand (StepGives (with_number argument (number_within most text.now)) (λ n. n)) result }
     ensures fits { IfOk result (λ n. n ≤ most) }
 {
     Ok(read_number(text, most).ok_or(InputFault::Number(argument))?)
@@ -42,7 +43,7 @@ pub fn number_named(text: &str, argument: Argument, most: u64) -> Result<u64, Ha
 
 /// The number that a text tells for an argument, where it is 1 at least and at most the greatest.
 pub fn positive_named(text: &str, argument: Argument, most: u64) -> Result<u64, Halt>
-    ensures goes { InHand (GoesOn (with_number argument (positive_within most text.now)) (λ n. n)) result }
+    ensures goes { InHand (StepGives (with_number argument (positive_within most text.now)) (λ n. n)) result }
     ensures positive { IfOk result (λ n. 1 ≤ n) }
     ensures fits { IfOk result (λ n. n ≤ most) }
 {

@@ -4,13 +4,15 @@ ghost use Rattle.std.specs.Option.{ForSome};
 ghost use Rattle.core_terms.specs.Programs.{meaning};
 ghost use Rattle.lam_outside.specs.Told.{Contents};
 ghost use Rattle.file_commands.specs.Reaching.{FaultsAt, FaultsAtReached};
-ghost use Rattle.file_commands.specs.Answer.{Answer, with_fueled_role, with_role_call, with_state, with_state_file};
-ghost use Rattle.file_commands.specs.Answer as meant;
+ghost use Rattle.file_commands.specs.RoleInputs.{with_fueled_role, with_role_call};
+ghost use Rattle.file_commands.specs.FileInputs.{with_state, with_state_file};
+ghost use Rattle.file_commands.specs.AnswerForms.{Answer};
+ghost use Rattle.file_commands.specs.RoleInputs as meant;
 ghost use Rattle.file_commands.specs.FueledRoles.{FueledRole};
-ghost use Rattle.file_commands.specs.Halting.{GoesOn, HaltCause, InHand};
+ghost use Rattle.file_commands.specs.Halting.{StepGives, HaltCause, InHand};
 ghost use Rattle.file_commands.specs.ReadPrograms.{named_of};
 ghost use Rattle.file_commands.specs.RolesCalled.{IsCalled, role_of};
-ghost use Rattle.file_commands.specs.RolesJudged.{call_of, with_named_call, with_spelled};
+ghost use Rattle.file_commands.specs.RolesJudged.{call_meant, with_named_call, with_spelled};
 ghost use Rattle.file_commands.specs.declared.roles.Callee.{Callee};
 
 use crate::Halt;
@@ -46,7 +48,7 @@ pub fn read_role_call<F: Files>(
     state: &str,
 ) -> Result<RoleCall, Halt>
     ensures goes { let words = words.now in let p = program.now in ForSome (F.contents files.old) (λ told.
-        GoesOn (with_named_call callee (named_of p) words.role.now words.fuel.now state.now words.argument.now told) (call_of p) result) }
+        StepGives (with_named_call callee (named_of p) words.role.now words.fuel.now state.now words.argument.now told) (call_meant p) result) }
     ensures role { let words = words.now in let p = program.now in IfOk result (λ call.
         (go : FueledRole → Option Answer) → with_fueled_role callee (named_of p) words.role.now words.fuel.now go ≡ go (role_of p call.called)) }
     ensures valid { IfOk result (λ call. IsCalled callee program.now call.called) }
@@ -72,7 +74,7 @@ pub fn read_role_inputs<F: Files>(
 ) -> Result<RoleCall, Halt>
     requires { (callee : Callee) × IsCalled callee program.now called }
     ensures goes { let p = program.now in ForSome (F.contents files.old) (λ told.
-        GoesOn (with_role_call (role_of p called) state.now argument.now told) (call_of p) result) }
+        StepGives (with_role_call (role_of p called) state.now argument.now told) (call_meant p) result) }
     ensures role { IfOk result (λ call. call.called ≡ called) }
     ensures reached { (next : Contents → meant.RoleCall → Option Answer) → FaultsAtReached
         (λ told. with_role_call (role_of program.now called) state.now argument.now told (next told)) (F.contents files.old) (F.asked files.new) result }
@@ -98,7 +100,7 @@ pub fn read_state_file<F: Files>(
     name: &str,
 ) -> Result<Vec<u8>, Halt>
     ensures goes { ForSome (F.contents files.old) (λ told.
-        GoesOn (with_state_file (meaning program.now) (told name.now)) (λ bytes. bytes.items) result) }
+        StepGives (with_state_file (meaning program.now) (told name.now)) (λ bytes. bytes.items) result) }
     ensures asked { FaultsAt name.now (F.asked files.new) result }
     ensures cause { HaltCause (F.faults files.old) (F.faults files.new) result }
     ensures contents { F.contents files.new ≡ F.contents files.old }
@@ -111,9 +113,9 @@ pub fn read_state_file<F: Files>(
 }
 
 /// Judges whether the bytes are a spelling at the type of the program's state.
-#[tactic(auto, unfolding(crate::specs::Answer::state_read))]
+#[tactic(auto, unfolding(crate::specs::FileInputs::state_read))]
 fn judge_state(alloc: Global, program: &Program, bytes: &[u8]) -> Result<(), Halt>
-    ensures { InHand (GoesOn (with_state (meaning program.now) bytes.now) (λ _. bytes.now)) result }
+    ensures { InHand (StepGives (with_state (meaning program.now) bytes.now) (λ _. bytes.now)) result }
 {
     match check_spelled(alloc, program.types(), bytes, program.state_type()) {
         Ok(()) => Ok(()),
@@ -130,7 +132,7 @@ fn read_passed(
     text: &str,
 ) -> Result<Spelling, Halt>
     requires { (callee : Callee) × IsCalled callee program.now called.now }
-    ensures { InHand (GoesOn (with_spelled (role_of program.now called.now) text.now) (λ spelling. spelling)) result }
+    ensures { InHand (StepGives (with_spelled (role_of program.now called.now) text.now) (λ spelling. spelling)) result }
 {
     Ok(parse_literal(alloc, program, called.argument, text)?)
 }

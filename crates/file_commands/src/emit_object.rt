@@ -7,7 +7,7 @@ ghost use Rattle.core_terms.specs.Programs.{meaning};
 ghost use Rattle.core_terms.specs.declared.format.Format.TheVariants.{First};
 ghost use Rattle.file_commands.specs.Answer.{answer_with, emitted_answer, object_answer, stored_object, object_written, with_listed_file};
 ghost use Rattle.file_commands.specs.Ending.{EndsAs, outside};
-ghost use Rattle.file_commands.specs.Halting.{GoesOn, HaltCause, InHand, ending_status};
+ghost use Rattle.file_commands.specs.Halting.{StepGives, HaltCause, InHand, ending_status};
 ghost use Rattle.file_commands.specs.Reaching.{FaultsAt, FaultsAtReached, ReachedAt};
 ghost use Rattle.file_commands.specs.ReadPrograms.{listed_of};
 ghost use Rattle.file_commands.specs.Statuses.{MayAnswer};
@@ -58,7 +58,7 @@ fn find_object<F: Files>(alloc: Global, program: &str, files: &mut F) -> Result<
 
 /// The program of a text in a file. A file that begins as an object is refused, whatever follows.
 fn read_listed_program<F: Files>(alloc: Global, files: &mut F, name: &str) -> Result<Program, Halt>
-    ensures goes { ForSome (F.contents files.old) (λ told. GoesOn (with_listed_file (told name.now)) listed_of result) }
+    ensures goes { ForSome (F.contents files.old) (λ told. StepGives (with_listed_file (told name.now)) listed_of result) }
     ensures written { IfOk result (λ program. (meaning program).code ≡ None) }
     ensures asked { FaultsAt name.now (F.asked files.new) result }
     ensures cause { HaltCause (F.faults files.old) (F.faults files.new) result }

@@ -7,15 +7,16 @@ ghost use Rattle.command_words.specs.declared.command.Command.TheVariants.{Fetch
 ghost use Rattle.core_terms.specs.Programs.{meaning};
 ghost use Rattle.code_gen.specs.Programs.{program_in};
 ghost use Rattle.piece_mirror.specs.Tables.{bytes_of};
-ghost use Rattle.file_commands.specs.Answer.{answer_with, fetched_answer, fetched_verdict, max_file, mirrored_answer, with_mirror, with_mirror_file};
+ghost use Rattle.file_commands.specs.Answer.{answer_with, fetched_answer, fetched_verdict, mirrored_answer, with_mirror, with_mirror_file};
+ghost use Rattle.file_commands.specs.FileInputs.{max_file};
 ghost use Rattle.file_commands.specs.Ending.{EndsAs, outside};
 ghost use Rattle.file_commands.specs.FetchedCalls.{HaltsFor, IsNoFault, ReportsVerdict, TellsVerdict, fetched_behind, rejection_of};
-ghost use Rattle.file_commands.specs.Halting.{Finds, GoesOn, HaltCause, InHand, JudgementCause, WithoutFiles, ending_status, halt_status};
+ghost use Rattle.file_commands.specs.Halting.{Finds, StepGives, HaltCause, InHand, JudgementCause, WithoutFiles, ending_status, halt_status};
 ghost use Rattle.file_commands.specs.Reaching.{FaultsAt, FaultsAtReached, ReachedAt};
 ghost use Rattle.file_commands.specs.ReadPrograms.{named_of};
 ghost use Rattle.file_commands.specs.RoleCalls.{result_called};
 ghost use Rattle.file_commands.specs.RolesCalled.{IsCalled, role_of};
-ghost use Rattle.file_commands.specs.RolesJudged.{call_of};
+ghost use Rattle.file_commands.specs.RolesJudged.{call_meant};
 ghost use Rattle.file_commands.specs.SoundPrograms.{IsOutcome};
 ghost use Rattle.file_commands.specs.Statuses.{MayAnswer, ReadsFiles};
 ghost use Rattle.file_commands.specs.declared.roles.Callee.{Callee};
@@ -129,7 +130,7 @@ pub fn load_mirror_file<F: Files>(
     files: &mut F,
     name: &str,
 ) -> Result<Mirror<Sha>, Halt>
-    ensures goes { ForSome (F.contents files.old) (λ told. GoesOn (with_mirror_file (told name.now)) (λ mirror. bytes_of mirror.pieces) result) }
+    ensures goes { ForSome (F.contents files.old) (λ told. StepGives (with_mirror_file (told name.now)) (λ mirror. bytes_of mirror.pieces) result) }
     ensures asked { FaultsAt name.now (F.asked files.new) result }
     ensures cause { HaltCause (F.faults files.old) (F.faults files.new) result }
     ensures possible { (command : Command) → ReadsFiles command → IfErr result (λ halt. MayAnswer command (halt_status halt)) }
@@ -144,7 +145,7 @@ pub fn load_mirror_file<F: Files>(
 /// The mirror that these bytes are the file of.
 fn load_mirror(alloc: Global, bytes: &[u8]) -> Result<Mirror<Sha>, Halt>
     requires { length bytes.now ≤ max_file }
-    ensures { InHand (GoesOn (with_mirror bytes.now) (λ mirror. bytes_of mirror.pieces)) result }
+    ensures { InHand (StepGives (with_mirror bytes.now) (λ mirror. bytes_of mirror.pieces)) result }
 {
     Ok(Mirror::load(alloc, bytes)?)
 }
@@ -157,7 +158,7 @@ fn fetch_from(
     mirror: &mut Mirror<Sha>,
 ) -> Result<Report, Halt>
     requires { IsCalled OfState (program_in code.now) call.now.called }
-    ensures finds { WithoutFiles (Finds (Some (mirrored_answer (call_of (program_in code.now) call.now) (bytes_of mirror.old.pieces)))) result }
+    ensures finds { WithoutFiles (Finds (Some (mirrored_answer (call_meant (program_in code.now) call.now) (bytes_of mirror.old.pieces)))) result }
     ensures ending { IfOk result (λ report. IsOutcome (ending_status report.ending)) }
 {
     let judged = fetched_outcome(alloc, code, call, mirror);
@@ -173,7 +174,7 @@ fn fetched_outcome(
 ) -> Result<Outcome<Spelling>, FetchVerdict>
     requires { IsCalled OfState (program_in code.now) call.now.called }
     ensures { let p = program_in code.now in
-        TellsVerdict (meaning p) (result_called (role_of p call.now.called)) (fetched_verdict (call_of p call.now) (bytes_of mirror.old.pieces)) result }
+        TellsVerdict (meaning p) (result_called (role_of p call.now.called)) (fetched_verdict (call_meant p call.now) (bytes_of mirror.old.pieces)) result }
 {
     let CalledRole { function, fuel, .. } = call.called;
     verify_from::<Sha, Mirror<Sha>>(

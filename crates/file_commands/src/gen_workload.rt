@@ -6,10 +6,12 @@ ghost use Rattle.command_words.specs.Commands.{texts};
 ghost use Rattle.command_words.specs.declared.command.Command.TheVariants.{Gen};
 ghost use Rattle.core_terms.specs.Programs.{meaning};
 ghost use Rattle.core_terms.specs.Values.{Value};
-ghost use Rattle.file_commands.specs.Answer.{answer_with, first_argument, first_role, generated_by, sums_answer, with_numbers, with_source, with_text, workload_answer};
+ghost use Rattle.file_commands.specs.Answer.{answer_with};
+ghost use Rattle.file_commands.specs.WorkloadAnswers.{first_argument, first_role, generated_by, sums_answer, with_numbers, with_source, workload_answer};
+ghost use Rattle.file_commands.specs.FileInputs.{with_text};
 ghost use Rattle.file_commands.specs.Ending.{EndsOnSink};
 ghost use Rattle.file_commands.specs.GeneratedCalls.{AreCalled, numbers_of};
-ghost use Rattle.file_commands.specs.Halting.{FindsLines, GoesOn, InHand, TellsLines, ending_status};
+ghost use Rattle.file_commands.specs.Halting.{FindsLines, StepGives, InHand, TellsLines, ending_status};
 ghost use Rattle.file_commands.specs.ReadPrograms.{named_of};
 ghost use Rattle.file_commands.specs.SoundPrograms.{IsOutcome};
 ghost use Rattle.file_commands.specs.Statuses.{MayAnswer};
@@ -91,7 +93,7 @@ fn find_sums(alloc: Global, words: &GenWords<'_>) -> Result<Report, Halt>
 
 /// The numbers that the words tell. The first that is refused halts it.
 fn read_numbers(words: &GenWords<'_>) -> Result<Numbers, Halt>
-    ensures goes { let words = words.now in InHand (GoesOn (with_numbers words.seed.now words.count.now words.kept.now) numbers_of) result }
+    ensures goes { let words = words.now in InHand (StepGives (with_numbers words.seed.now words.count.now words.kept.now) numbers_of) result }
     ensures rounds { IfOk result (λ numbers. numbers.rounds ≤ 100000) }
     ensures kept { IfOk result (λ numbers. numbers.kept ≤ 1024) }
 {
@@ -113,7 +115,7 @@ const MOST_KEPT: u64 = 1_024;
 /// The code of the program of a text, which has at most 262,144 bytes.
 fn code_of_text(alloc: Global, text: &[u8]) -> Result<Code, Halt>
     requires { length text.now ≤ 262144 }
-    ensures { InHand (GoesOn (with_text text.now) (λ code. named_of (program_in code))) result }
+    ensures { InHand (StepGives (with_text text.now) (λ code. named_of (program_in code))) result }
 {
     let program = read_program(alloc, text)?;
     Ok(Code::generate(program, alloc)?)

@@ -8,10 +8,12 @@ ghost use Rattle.core_terms.specs.TypeTables.{type_at};
 ghost use Rattle.value_store.specs.Markings.{HasLimit};
 ghost use Rattle.value_store.specs.Standing.{Keeps, StandsFor};
 ghost use Rattle.value_store.specs.Stores.{nodes_in, store_lent};
-ghost use Rattle.file_commands.specs.Answer.{Answer, with_fueled_role, with_ideal_call, with_literal};
+ghost use Rattle.file_commands.specs.RoleInputs.{with_fueled_role, with_ideal_call};
+ghost use Rattle.file_commands.specs.FileInputs.{with_literal};
+ghost use Rattle.file_commands.specs.AnswerForms.{Answer};
 ghost use Rattle.file_commands.specs.CallsInStores.{HoldsCall, HoldsSome, with_called};
 ghost use Rattle.file_commands.specs.FueledRoles.{FueledRole};
-ghost use Rattle.file_commands.specs.Halting.{GoesOnFor, HaltCause, InHand};
+ghost use Rattle.file_commands.specs.Halting.{StepGivesFor, HaltCause, InHand};
 ghost use Rattle.file_commands.specs.IdealCalls as meant;
 ghost use Rattle.file_commands.specs.Reaching.{FaultsAt, FaultsAtReached};
 ghost use Rattle.file_commands.specs.ReadPrograms.{named_of};
@@ -49,7 +51,7 @@ pub fn read_named_call<F: Files>(
     image: &str,
 ) -> Result<IdealCall, Halt>
     ensures goes { let words = words.now in let p = program.now in ForSome (F.contents files.old) (λ told.
-        GoesOnFor (with_called callee (named_of p) words.role.now image.now words.argument.now words.fuel.now told) (HoldsCall callee p) result) }
+        StepGivesFor (with_called callee (named_of p) words.role.now image.now words.argument.now words.fuel.now told) (HoldsCall callee p) result) }
     ensures holds { IfOk result (HoldsSome callee program.now) }
     ensures role { let words = words.now in let p = program.now in IfOk result (λ held.
         (go : FueledRole → Option Answer) → with_fueled_role callee (named_of p) words.role.now words.fuel.now go ≡ go (role_of p held.called)) }
@@ -75,7 +77,7 @@ pub fn read_ideal_call<F: Files>(
 ) -> Result<IdealCall, Halt>
     requires { (callee : Callee) × IsCalled callee program.now called }
     ensures goes { let p = program.now in (callee : Callee) → IsCalled callee p called → ForSome (F.contents files.old) (λ told.
-        GoesOnFor (with_ideal_call (role_of p called) image.now argument.now told) (HoldsCall callee p) result) }
+        StepGivesFor (with_ideal_call (role_of p called) image.now argument.now told) (HoldsCall callee p) result) }
     ensures holds { let p = program.now in (callee : Callee) → IsCalled callee p called → IfOk result (HoldsSome callee p) }
     ensures called { IfOk result (λ held. held.called ≡ called) }
     ensures asked { FaultsAt image.now (F.asked files.new) result }
@@ -107,7 +109,7 @@ pub fn put_argument(
     requires plain { IsPlain (meaning program.now).types (type_at (types_of program.now) ty) }
     requires limit { HasLimit (meaning program.now) (store_lent store.old) }
     ensures goes { let p = program.now in let t = type_at (types_of p) ty in
-        InHand (GoesOnFor (with_literal (named_literal (named_of p) t text.now)) (λ value v. StandsFor (prover_nodes p) (meaning p).types (nodes_in store.new) value.0 t v)) result }
+        InHand (StepGivesFor (with_literal (named_literal (named_of p) t text.now)) (λ value v. StandsFor (prover_nodes p) (meaning p).types (nodes_in store.new) value.0 t v)) result }
     ensures keeps { Keeps (nodes_in store.old) (nodes_in store.new) }
     ensures limit { HasLimit (meaning program.now) (store_lent store.new) }
 {

@@ -4,9 +4,11 @@ ghost use Rattle.ads_library.specs.Texts.{library_text};
 ghost use Rattle.command_words.specs.Commands.{texts};
 ghost use Rattle.command_words.specs.declared.command.Command.{Command};
 ghost use Rattle.command_words.specs.declared.command.Command.TheVariants.{Library};
-ghost use Rattle.file_commands.specs.Answer.{answer_with, says, with_source};
+ghost use Rattle.file_commands.specs.Answer.{answer_with};
+ghost use Rattle.file_commands.specs.WorkloadAnswers.{with_source};
+ghost use Rattle.file_commands.specs.AnswerForms.{says};
 ghost use Rattle.file_commands.specs.Ending.{EndsOnSink};
-ghost use Rattle.file_commands.specs.Halting.{Finds, GoesOn, InHand, halt_status, status_of};
+ghost use Rattle.file_commands.specs.Halting.{Finds, StepGives, InHand, halt_status, status_of};
 ghost use Rattle.file_commands.specs.Statuses.{MayAnswer};
 ghost use Rattle.file_commands.specs.declared.status.Status.TheVariants as status;
 
@@ -43,7 +45,7 @@ fn find_text(alloc: Global, name: &str) -> Result<Report, Halt>
 
 /// The text of the program of the library that has this name.
 pub fn source_named(name: &str) -> Result<&'static [u8], Halt>
-    ensures goes { InHand (GoesOn (with_source (library_text name.now)) (λ text. text.now)) result }
+    ensures goes { InHand (StepGives (with_source (library_text name.now)) (λ text. text.now)) result }
     ensures text { IfOk result (λ text. library_text name.now ≡ Some text.now) }
     ensures possible { (command : Command) → IfErr result (λ halt. MayAnswer command (halt_status halt)) }
 {

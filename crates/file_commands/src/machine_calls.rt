@@ -4,9 +4,11 @@ ghost use Rattle.std.specs.Option.{ForSome};
 ghost use Rattle.core_terms.specs.Programs.{meaning};
 ghost use Rattle.core_terms.specs.Values.{AndV, NoV};
 ghost use Rattle.code_gen.specs.Programs.{program_in};
-ghost use Rattle.file_commands.specs.Answer.{Answer, with_ended_call, with_ended_init, with_program_file, with_passed};
+ghost use Rattle.file_commands.specs.RoleInputs.{with_ended_call, with_ended_init, with_passed};
+ghost use Rattle.file_commands.specs.FileInputs.{with_program_file};
+ghost use Rattle.file_commands.specs.AnswerForms.{Answer};
 ghost use Rattle.file_commands.specs.CallsInStores.{HoldsCall, HoldsSome};
-ghost use Rattle.file_commands.specs.Halting.{GoesOn, GoesOnFor, HaltCause, InHand};
+ghost use Rattle.file_commands.specs.Halting.{StepGives, StepGivesFor, HaltCause, InHand};
 ghost use Rattle.file_commands.specs.IdealCalls as meant;
 ghost use Rattle.file_commands.specs.IdealCalls.{ended_call};
 ghost use Rattle.file_commands.specs.Reaching.{FaultsAt, FaultsAtReached};
@@ -37,7 +39,7 @@ pub struct Ended {
 
 /// The code of the program in a file.
 pub fn read_code<F: Files>(alloc: Global, files: &mut F, name: &str) -> Result<Code, Halt>
-    ensures goes { ForSome (F.contents files.old) (λ told. GoesOn (with_program_file (told name.now)) (λ code. named_of (program_in code)) result) }
+    ensures goes { ForSome (F.contents files.old) (λ told. StepGives (with_program_file (told name.now)) (λ code. named_of (program_in code)) result) }
     ensures source { IfOk result (λ code. IsOfTextOrObject (meaning (program_in code))) }
     ensures asked { FaultsAt name.now (F.asked files.new) result }
     ensures cause { HaltCause (F.faults files.old) (F.faults files.new) result }
@@ -52,7 +54,7 @@ pub fn read_code<F: Files>(alloc: Global, files: &mut F, name: &str) -> Result<C
 /// Calls the init that the words name.
 pub fn call_init(alloc: Global, code: &Code, words: &CallWords<'_>) -> Result<Ended, Halt>
     ensures { let words = words.now in let p = program_in code.now in
-        InHand (GoesOnFor (with_ended_init (named_of p) words.role.now words.argument.now words.fuel.now) (IsEnded Callee.Init p)) result }
+        InHand (StepGivesFor (with_ended_init (named_of p) words.role.now words.argument.now words.fuel.now) (IsEnded Callee.Init p)) result }
 {
     let program = code.program();
     let called = called_role(program, Callee::Init, words.role, words.fuel)?;
@@ -70,7 +72,7 @@ pub fn call_role<F: Files>(
 ) -> Result<Ended, Halt>
     requires { CallsOnStates callee }
     ensures goes { let words = words.now in let p = program_in code.now in ForSome (F.contents files.old) (λ told.
-        GoesOnFor (with_ended_call callee (named_of p) words.role.now image.now words.argument.now words.fuel.now told) (IsEnded callee p) result) }
+        StepGivesFor (with_ended_call callee (named_of p) words.role.now image.now words.argument.now words.fuel.now told) (IsEnded callee p) result) }
     ensures ended { IfOk result (HasEnded callee (program_in code.now)) }
     ensures reached { let words = words.now in let p = program_in code.now in (go : EndedRole → Option Answer) →
         FaultsAtReached (λ told. with_ended_call callee (named_of p) words.role.now image.now words.argument.now words.fuel.now told go) (F.contents files.old) (F.asked files.new) result }
@@ -87,7 +89,7 @@ pub fn call_role<F: Files>(
 fn run_init(alloc: Global, code: &Code, called: CalledRole, argument: &str) -> Result<Ended, Halt>
     requires { IsCalled Callee.Init (program_in code.now) called }
     ensures { let p = program_in code.now in
-        InHand (GoesOnFor (λ go. with_passed (role_of p called) argument.now (λ a. go (ended_with (role_of p called) (AndV a NoV)))) (IsEnded Callee.Init p)) result }
+        InHand (StepGivesFor (λ go. with_passed (role_of p called) argument.now (λ a. go (ended_with (role_of p called) (AndV a NoV)))) (IsEnded Callee.Init p)) result }
 {
     let mut store = Store::new(alloc, code.types().spelling_limit() as u32);
     let ty = called.argument;

@@ -6,9 +6,9 @@ ghost use Rattle.core_terms.specs.ProgramTypes.{text_of};
 ghost use Rattle.core_terms.specs.Programs.{constructor_names, meaning};
 ghost use Rattle.core_terms.specs.TypeNames.{all_constructor_names};
 ghost use Rattle.file_commands.specs.Reaching.{FaultsAt};
-ghost use Rattle.file_commands.specs.Answer.{with_declared_file, with_program_bytes, with_program_file};
+ghost use Rattle.file_commands.specs.FileInputs.{with_declared_file, with_program_bytes, with_program_file};
 ghost use Rattle.file_commands.specs.FilePrograms.{begins_as_object, constructor_names_of_file, longest_program, program_of_file, IsOfTextOrObject};
-ghost use Rattle.file_commands.specs.Halting.{GoesOn, HaltCause};
+ghost use Rattle.file_commands.specs.Halting.{StepGives, HaltCause};
 ghost use Rattle.file_commands.specs.ReadPrograms.{ReadsProgram, declared_of, named_of};
 ghost use Rattle.file_commands.specs.SoundPrograms.{IsOfDeclared};
 ghost use Rattle.file_commands.specs.TextPrograms.{constructor_names_of_text, constructors_of_text, program_of_text, types_text_of_text};
@@ -153,7 +153,7 @@ fn read_object_or_text(alloc: Global, bytes: &[u8]) -> Result<Program, ProgramFa
 
 /// The bytes of the file of a program: at most 4,194,304 that begin as an object, or a text of at most 262,144.
 pub fn load_program<F: Files>(alloc: Global, files: &mut F, name: &str) -> Result<Vec<u8>, Halt>
-    ensures goes { ForSome (F.contents files.old) (λ told. GoesOn (with_program_bytes (told name.now)) (λ bytes. bytes.items) result) }
+    ensures goes { ForSome (F.contents files.old) (λ told. StepGives (with_program_bytes (told name.now)) (λ bytes. bytes.items) result) }
     ensures fits { IfOk result (λ bytes. length bytes.items ≤ longest_program bytes.items) }
     ensures asked { FaultsAt name.now (F.asked files.new) result }
     ensures cause { HaltCause (F.faults files.old) (F.faults files.new) result }
@@ -174,7 +174,7 @@ pub fn read_program_file<F: Files>(
     files: &mut F,
     name: &str,
 ) -> Result<Program, Halt>
-    ensures goes { ForSome (F.contents files.old) (λ told. GoesOn (with_program_file (told name.now)) named_of result) }
+    ensures goes { ForSome (F.contents files.old) (λ told. StepGives (with_program_file (told name.now)) named_of result) }
     ensures source { IfOk result (λ program. IsOfTextOrObject (meaning program)) }
     ensures asked { FaultsAt name.now (F.asked files.new) result }
     ensures cause { HaltCause (F.faults files.old) (F.faults files.new) result }
@@ -193,7 +193,7 @@ pub fn read_named_program<F: Files>(
     argument: Argument,
     name: &str,
 ) -> Result<Program, Halt>
-    ensures goes { ForSome (F.contents files.old) (λ told. GoesOn (with_declared_file argument (told name.now)) declared_of result) }
+    ensures goes { ForSome (F.contents files.old) (λ told. StepGives (with_declared_file argument (told name.now)) declared_of result) }
     ensures text { IfOk result (λ program. IsOfDeclared (text_of program.types) (meaning program)) }
     ensures asked { FaultsAt name.now (F.asked files.new) result }
     ensures cause { HaltCause (F.faults files.old) (F.faults files.new) result }

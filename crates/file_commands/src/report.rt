@@ -5,8 +5,9 @@ ghost use Rattle.command_words.specs.declared.command.Command.{Command};
 ghost use Rattle.printed_lines.specs.declared.refusal.Refusal.TheVariants.{Input};
 ghost use Rattle.file_commands.specs.declared.report.Halt.TheVariants.{NoMemory, ReadFault, Refused};
 ghost use Rattle.file_commands.specs.Reaching.{FaultsAt};
-ghost use Rattle.file_commands.specs.Answer.{refusal_status, with_file};
-ghost use Rattle.file_commands.specs.Halting.{GoesOn, HaltCause, ending_status, halt_status, of_audit_fault, of_image_fault, of_literal_fault, of_mirror_fault, of_program_fault, of_save_fault, of_script_fault, of_write_fault};
+ghost use Rattle.file_commands.specs.FileInputs.{with_file};
+ghost use Rattle.file_commands.specs.AnswerForms.{refusal_status};
+ghost use Rattle.file_commands.specs.Halting.{StepGives, HaltCause, ending_status, halt_status, of_audit_fault, of_image_fault, of_literal_fault, of_mirror_fault, of_program_fault, of_save_fault, of_script_fault, of_write_fault};
 ghost use Rattle.file_commands.specs.VerdictHalts.{of_verdict};
 ghost use Rattle.file_commands.specs.Statuses.{MayAnswer, ReadsFiles};
 ghost use Rattle.file_commands.specs.Telling.{Tells, TellsText};
@@ -239,7 +240,7 @@ pub fn load<F: Files>(
     name: &str,
     max: usize,
 ) -> Result<Vec<u8>, Halt>
-    ensures goes { ForSome (F.contents files.old) (λ told. GoesOn (with_file max argument (told name.now)) (λ bytes. bytes.items) result) }
+    ensures goes { ForSome (F.contents files.old) (λ told. StepGives (with_file max argument (told name.now)) (λ bytes. bytes.items) result) }
     ensures holds { ForSome (F.contents files.old) (λ told. IfOk result (λ bytes. told name.now ≡ Some bytes.items)) }
     ensures fits { IfOk result (λ bytes. length bytes.items ≤ max) }
     ensures asked { FaultsAt name.now (F.asked files.new) result }

@@ -2,8 +2,8 @@
 ghost use Rattle.std.specs.Prelude.{◌≡◌, IfOk};
 ghost use Rattle.core_terms.specs.Programs.{meaning};
 ghost use Rattle.core_terms.specs.RoleViews.{role_kind_of};
-ghost use Rattle.file_commands.specs.Answer.{with_fueled_role, with_role};
-ghost use Rattle.file_commands.specs.Halting.{GoesOn, InHand};
+ghost use Rattle.file_commands.specs.RoleInputs.{with_fueled_role, with_role};
+ghost use Rattle.file_commands.specs.Halting.{StepGives, InHand};
 ghost use Rattle.file_commands.specs.ReadPrograms.{named_of};
 ghost use Rattle.file_commands.specs.RoleCalls.{is_called};
 ghost use Rattle.file_commands.specs.RolesCalled.{IsCalled, IsRoleOf, role_of};
@@ -64,7 +64,7 @@ pub fn called_role(
     name: &str,
     fuel: &str,
 ) -> Result<CalledRole, Halt>
-    ensures goes { InHand (GoesOn (with_fueled_role callee (named_of program.now) name.now fuel.now) (role_of program.now)) result }
+    ensures goes { InHand (StepGives (with_fueled_role callee (named_of program.now) name.now fuel.now) (role_of program.now)) result }
     ensures valid { IfOk result (IsCalled callee program.now) }
 {
     let role = role_named(program, callee, name)?;
@@ -80,7 +80,7 @@ pub fn called_role(
 
 /// The role of this name, which has to be one that the command calls.
 pub fn role_named<'a>(program: &'a Program, callee: Callee, name: &str) -> Result<&'a Role, Halt>
-    ensures goes { InHand (GoesOn (with_role callee (meaning program.now) name.now) (λ role. role.now.function.0)) result }
+    ensures goes { InHand (StepGives (with_role callee (meaning program.now) name.now) (λ role. role.now.function.0)) result }
     ensures role { IfOk result (λ role. IsRoleOf callee program.now role.now) }
 {
     let id = program.role(name).ok_or(InputFault::RoleUnknown)?;

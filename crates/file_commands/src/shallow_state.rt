@@ -6,7 +6,8 @@ ghost use Rattle.command_words.specs.declared.command.Command.TheVariants.{Shall
 ghost use Rattle.core_terms.specs.Programs.{meaning};
 ghost use Rattle.core_terms.specs.Values.{Value};
 ghost use Rattle.file_commands.specs.Reaching.{FaultsAtReached, ReachedAt};
-ghost use Rattle.file_commands.specs.Answer.{answer_with, spelled_answer, state_answer};
+ghost use Rattle.file_commands.specs.Answer.{answer_with, spelled_answer};
+ghost use Rattle.file_commands.specs.OutcomeAnswers.{state_answer};
 ghost use Rattle.file_commands.specs.Ending.{EndsAs, outside};
 ghost use Rattle.file_commands.specs.Halting.{HaltCause, ending_status};
 ghost use Rattle.file_commands.specs.ReadPrograms.{named_of};

@@ -4,8 +4,8 @@ ghost use Rattle.std.specs.Option.{ForSome};
 ghost use Rattle.core_terms.specs.Programs.{meaning};
 ghost use Rattle.core_terms.specs.Values.{Value};
 ghost use Rattle.file_commands.specs.Reaching.{FaultsAt};
-ghost use Rattle.file_commands.specs.Answer.{max_file, with_image, with_image_bytes, with_image_file};
-ghost use Rattle.file_commands.specs.Halting.{GoesOnFor, HaltCause, InHand};
+ghost use Rattle.file_commands.specs.FileInputs.{max_file, with_image, with_image_bytes, with_image_file};
+ghost use Rattle.file_commands.specs.Halting.{StepGivesFor, HaltCause, InHand};
 ghost use Rattle.file_commands.specs.ReadPrograms.{digested_of};
 ghost use Rattle.file_commands.specs.StoredStates.{IsStoredState};
 ghost use Rattle.images.specs.Images.{Root, image_of};
@@ -27,7 +27,7 @@ pub fn load_image_file<F: Files>(
     program: &Program,
     name: &str,
 ) -> Result<Loaded, Halt>
-    ensures goes { ForSome (F.contents files.old) (λ told. GoesOnFor (with_image_file (digested_of program.now) (told name.now)) (IsStoredState (meaning program.now)) result) }
+    ensures goes { ForSome (F.contents files.old) (λ told. StepGivesFor (with_image_file (digested_of program.now) (told name.now)) (IsStoredState (meaning program.now)) result) }
     ensures stands { IfOk result (λ loaded. (v : Value) × IsStoredState (meaning program.now) loaded v) }
     ensures asked { FaultsAt name.now (F.asked files.new) result }
     ensures cause { HaltCause (F.faults files.old) (F.faults files.new) result }
@@ -46,7 +46,7 @@ pub fn load_image_bytes<F: Files>(
     program: &Program,
     name: &str,
 ) -> Result<Vec<u8>, Halt>
-    ensures goes { ForSome (F.contents files.old) (λ told. GoesOnFor (with_image_bytes (digested_of program.now) (told name.now)) (λ bytes image. bytes.items ≡ image) result) }
+    ensures goes { ForSome (F.contents files.old) (λ told. StepGivesFor (with_image_bytes (digested_of program.now) (told name.now)) (λ bytes image. bytes.items ≡ image) result) }
     ensures image { let p = digested_of program.now in IfOk result (λ bytes. (v : Value) × (image_of p.program p.digest bytes.items ≡ Root v)) }
     ensures fits { IfOk result (λ bytes. length bytes.items ≤ max_file) }
     ensures asked { FaultsAt name.now (F.asked files.new) result }
@@ -62,7 +62,7 @@ pub fn load_image_bytes<F: Files>(
 
 /// The ideal state in an image of the program, over the prover's nodes.
 pub fn load_state(alloc: Global, program: &Program, bytes: &[u8]) -> Result<Loaded, Halt>
-    ensures goes { InHand (GoesOnFor (with_image (digested_of program.now) bytes.now) (IsStoredState (meaning program.now))) result }
+    ensures goes { InHand (StepGivesFor (with_image (digested_of program.now) bytes.now) (IsStoredState (meaning program.now))) result }
     ensures stands { IfOk result (λ loaded. (v : Value) × IsStoredState (meaning program.now) loaded v) }
 {
     let types = program.types();

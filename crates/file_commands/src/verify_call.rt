@@ -6,16 +6,19 @@ ghost use Rattle.command_words.specs.declared.command.Command.TheVariants.{Verif
 ghost use Rattle.core_terms.specs.Programs.{meaning};
 ghost use Rattle.code_gen.specs.Programs.{program_in};
 ghost use Rattle.ideal_meaning.specs.Ideal as meant;
-ghost use Rattle.verifier_mode.specs.Verdicts.{Answers, IsTold, VerdictCause};
+ghost use Rattle.verifier_mode.specs.Verdicts.{AnswersVerdict, TellsSomeOutcome, VerdictCause};
 ghost use Rattle.ideal_meaning.specs.SpelledOutcomes.{SpellsOutcome};
 ghost use Rattle.file_commands.specs.Reaching.{FaultsAtReached, ReachedAt};
-ghost use Rattle.file_commands.specs.Answer.{accepted_answer, answer_with, callee_of, role_verdict, says, shallow_told, spelling_stored, verified_answer};
+ghost use Rattle.file_commands.specs.Answer.{accepted_answer, answer_with, callee_of, spelling_stored, verified_answer};
+ghost use Rattle.file_commands.specs.OutcomeAnswers.{shallow_told};
+ghost use Rattle.file_commands.specs.RoleInputs.{role_verdict};
+ghost use Rattle.file_commands.specs.AnswerForms.{says};
 ghost use Rattle.file_commands.specs.Ending.{EndsAs, outside};
 ghost use Rattle.file_commands.specs.Halting.{JudgementCause, ending_status};
 ghost use Rattle.file_commands.specs.ReadPrograms.{named_of};
 ghost use Rattle.file_commands.specs.RoleCalls.{result_called};
 ghost use Rattle.file_commands.specs.RolesCalled.{CallsOnStates, IsCalled, role_of};
-ghost use Rattle.file_commands.specs.RolesJudged.{answer_behind, answer_to, call_of, name_of, out_of};
+ghost use Rattle.file_commands.specs.RolesJudged.{answer_behind, answer_to, call_meant, name_of, out_of};
 ghost use Rattle.file_commands.specs.SoundPrograms.{IsOutcome};
 ghost use Rattle.file_commands.specs.Statuses.{MayAnswer};
 ghost use Rattle.file_commands.specs.Storing.{FindsOutput, IsOutput, stored_as};
@@ -147,7 +150,7 @@ fn judge_proof<F: Files>(
     requires called { IsCalled callee (program_in code.now) call.now.called }
     requires reads { CallsOnStates callee }
     ensures finds { (out : Option (List ℕ)) → callee ≡ callee_of out → ForSome (F.left files.old) (λ bytes.
-        FindsOutput (name_of out) (Some (verified_answer out (call_of (program_in code.now) call.now) bytes)) result) }
+        FindsOutput (name_of out) (Some (verified_answer out (call_meant (program_in code.now) call.now) bytes)) result) }
     ensures ending { IfOk result (λ output. IsOutcome (ending_status output.report.ending)) }
     ensures cause { JudgementCause (F.faults files.old) (F.faults files.new) result }
     ensures asked { F.asked files.new ≡ F.asked files.old }
@@ -159,7 +162,7 @@ fn judge_proof<F: Files>(
 }
 
 /// The verifier's answer on a proof of a call.
-#[tactic(auto, unfolding(crate::specs::Answer::role_verdict))]
+#[tactic(auto, unfolding(crate::specs::RoleInputs::role_verdict))]
 fn verdict_of<F: Files>(
     alloc: Global,
     files: &mut F,
@@ -168,8 +171,8 @@ fn verdict_of<F: Files>(
 ) -> Result<Outcome<Spelling>, Verdict>
     requires { (callee : Callee) × CallsOnStates callee × IsCalled callee (program_in code.now) call.now.called }
     ensures verdict { ForSome (F.left files.old) (λ bytes. let p = program_in code.now in
-        Answers (meaning p) call.now.called.function.0 (role_verdict (call_of p call.now) bytes) result) }
-    ensures told { let p = program_in code.now in IfOk result (IsTold (meaning p) (result_called (role_of p call.now.called))) }
+        AnswersVerdict (meaning p) call.now.called.function.0 (role_verdict (call_meant p call.now) bytes) result) }
+    ensures told { let p = program_in code.now in IfOk result (TellsSomeOutcome (meaning p) (result_called (role_of p call.now.called))) }
     ensures cause { VerdictCause (F.faults files.old) (F.faults files.new) result }
     ensures asked { F.asked files.new ≡ F.asked files.old }
     ensures stores { F.stores files.new ≡ F.stores files.old }
@@ -196,7 +199,7 @@ fn outcome_output(
     outcome: &Outcome<Spelling>,
 ) -> Result<Output, AllocError>
     requires called { IsCalled callee program.now called.now }
-    requires told { IsTold (meaning program.now) (result_called (role_of program.now called.now)) outcome.now }
+    requires told { TellsSomeOutcome (meaning program.now) (result_called (role_of program.now called.now)) outcome.now }
     ensures ending { IfOk result (λ output. IsOutcome (ending_status output.report.ending)) }
     ensures finds { IfOk result (λ output. (out : Option (List ℕ)) (o : meant.Outcome) → callee ≡ callee_of out
         → SpellsOutcome (meaning program.now) (result_called (role_of program.now called.now)) o outcome.now
@@ -218,7 +221,7 @@ fn new_state(
     outcome: &Outcome<Spelling>,
 ) -> Result<Option<Vec<u8>>, AllocError>
     requires called { IsCalled Callee.Update program.now called.now }
-    requires told { IsTold (meaning program.now) (result_called (role_of program.now called.now)) outcome.now }
+    requires told { TellsSomeOutcome (meaning program.now) (result_called (role_of program.now called.now)) outcome.now }
     ensures { IfOk result (λ file. (name : List ℕ) (o : meant.Outcome) → SpellsOutcome (meaning program.now) (result_called (role_of program.now called.now)) o outcome.now
         → spelling_stored (role_of program.now called.now) (Some name) o ≡ stored_as name file) }
 {

@@ -6,9 +6,9 @@ ghost use Rattle.core_terms.specs.RoleTypes.{IsRole};
 ghost use Rattle.core_terms.specs.Terms as tree;
 ghost use Rattle.core_terms.specs.TypeTables.{type_at};
 ghost use Rattle.core_terms.specs.Types.{IntTy, PairTy, Ty};
-ghost use Rattle.file_commands.specs.Answer.{is_entry, is_get, is_key, is_put, keys_of, with_shaped_role, with_workload};
+ghost use Rattle.file_commands.specs.WorkloadAnswers.{is_entry, is_get, is_key, is_put, keys_of, with_shaped_role, with_workload};
 ghost use Rattle.file_commands.specs.GeneratedCalls.{AreCalled};
-ghost use Rattle.file_commands.specs.Halting.{GoesOn, InHand};
+ghost use Rattle.file_commands.specs.Halting.{StepGives, InHand};
 
 use crate::Halt;
 use crate::roles::{Callee, role_named};
@@ -18,7 +18,7 @@ use workloads::Workload;
 
 /// What a workload on a program of the library calls: the update `put` on a pair of ints, and the query `get` on an int.
 pub fn workload_of(program: &Program, name: &str, kept: u16) -> Result<Workload, Halt>
-    ensures goes { InHand (GoesOn (with_workload (meaning program.now) name.now kept) (λ workload. workload)) result }
+    ensures goes { InHand (StepGives (with_workload (meaning program.now) name.now kept) (λ workload. workload)) result }
     ensures calls { IfOk result (AreCalled (meaning program.now)) }
     ensures kept { IfOk result (λ workload. workload.kept ≡ kept) }
 {
@@ -42,7 +42,7 @@ fn keys_of(name: &str) -> u64
 
 /// The update `put`.
 fn put_role(program: &Program) -> Result<FunctionId, Halt>
-    ensures goes { InHand (GoesOn (with_shaped_role is_put (meaning program.now) (codes "put")) (λ put. put.0)) result }
+    ensures goes { InHand (StepGives (with_shaped_role is_put (meaning program.now) (codes "put")) (λ put. put.0)) result }
     ensures role { IfOk result (λ put. (answer : Ty) × IsRole (meaning program.now) put.0 tree.Update (PairTy IntTy IntTy) answer) }
 {
     let role = role_named(program, Callee::OfState, "put")?;
@@ -55,7 +55,7 @@ fn put_role(program: &Program) -> Result<FunctionId, Halt>
 
 /// The query `get`.
 fn get_role(program: &Program) -> Result<FunctionId, Halt>
-    ensures goes { InHand (GoesOn (with_shaped_role is_get (meaning program.now) (codes "get")) (λ get. get.0)) result }
+    ensures goes { InHand (StepGives (with_shaped_role is_get (meaning program.now) (codes "get")) (λ get. get.0)) result }
     ensures role { IfOk result (λ get. (answer : Ty) × IsRole (meaning program.now) get.0 tree.Query IntTy answer) }
 {
     let role = role_named(program, Callee::OfState, "get")?;

@@ -8,7 +8,7 @@ use Rattle.core_terms.specs.Projection.{projection, projections, AllFit}
 use Rattle.ideal_meaning.specs.Ideal.{Opened, ideal_mode}
 use Rattle.ideal_meaning.specs.PieceForms.{as_spelled}
 use Rattle.ideal_meaning.specs.Checked.{Taking, Cause, checked_mode}
-use Rattle.ideal_meaning.specs.Agreement.{Follows, Parts}
+use Rattle.ideal_meaning.specs.Agreement.{FollowsIdeal, Parts}
 use Rattle.ideal_meaning.proofs.InHand.{IsHeld, held_inputs}
 use Rattle.ideal_meaning.proofs.Projections.{reads_back}
 use Rattle.ideal_meaning.proofs.Calls.{agreement_of, at_start}
@@ -33,7 +33,7 @@ module _ (hash : Hash) (is_hash : IsHash hash) (format : Format) (is_format : Is
     -- neither is stuck, so both ran
     both_ran : (t : Ty) (Q R : Value → Type 0) (c : Coded ⊥ (List Opened)) (d : Coded Cause Taking) → Goes Q c → Goes R d
         → Meets hash (over format types) (as_spelled hash (over format types)) (λ t bytes. refl) is_format ⊥ began functions (reads_back hash is_hash (over format types) is_format) t c d
-        → BothRan (λ ideal checked. Follows hash (over format types) (projection hash (over format types) t) began ideal checked ⊎ Parts hash (over format types) began ideal checked) c d
+        → BothRan (λ ideal checked. FollowsIdeal hash (over format types) (projection hash (over format types) t) began ideal checked ⊎ Parts hash (over format types) began ideal checked) c d
     both_ran t Q R (Ran r) (Ran q) g h m = agreement_of hash P ⊥ began (IsHeld P ⊥ t) (projection hash P t) r q (m r q refl refl)
     both_ran t Q R (Ran r) Stuck g h m = elim h [ ]
     both_ran t Q R Stuck d g h m = elim g [ ]
@@ -41,7 +41,7 @@ module _ (hash : Hash) (is_hash : IsHash hash) (format : Format) (is_format : Is
     pub agreed : IsAccepted (record { limit = format.limit; types = types; functions = functions }) → (n f : ℕ) (args : Values) (k : ℕ)
         → let g = code_at (record { limit = format.limit; types = types; functions = functions }) f in
         AreIdeal types g.parameters args → AllFit (over format types) g.parameters args
-        → BothRan (λ ideal checked. Follows hash (over format types) (projection hash (over format types) g.result) began ideal checked ⊎ Parts hash (over format types) began ideal checked)
+        → BothRan (λ ideal checked. FollowsIdeal hash (over format types) (projection hash (over format types) g.result) began ideal checked ⊎ Parts hash (over format types) began ideal checked)
         (call_code (record { limit = format.limit; types = types; functions = functions }) ideal_mode n f args k [])
         (call_code (record { limit = format.limit; types = types; functions = functions }) (checked_mode hash (over format types)) n f
         (projections hash (over format types) g.parameters args) k began)
@@ -57,7 +57,7 @@ module _ (hash : Hash) (is_hash : IsHash hash) (format : Format) (is_format : Is
 pub code_agreement : CodeAgreement
 code_agreement hash is_hash format is_format B e accepted n f args k began ideals fits =
     subst (λ limit. IsAccepted (record { limit = limit; types = B.types; functions = B.functions })
-    → BothRan (λ ideal checked. Follows hash (over format B.types) (projection hash (over format B.types) (code_at B f).result) began ideal checked ⊎ Parts hash
+    → BothRan (λ ideal checked. FollowsIdeal hash (over format B.types) (projection hash (over format B.types) (code_at B f).result) began ideal checked ⊎ Parts hash
     (over format B.types) began ideal checked)
     (call_code (record { limit = limit; types = B.types; functions = B.functions }) ideal_mode n f args k [])
     (call_code (record { limit = limit; types = B.types; functions = B.functions }) (checked_mode hash (over format B.types)) n f

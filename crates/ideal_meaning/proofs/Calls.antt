@@ -10,7 +10,7 @@ use Rattle.ideal_meaning.specs.Run.{Run, Gives, Ends, call}
 use Rattle.ideal_meaning.specs.Ideal.{Opened, ideal_mode}
 use Rattle.ideal_meaning.specs.PieceForms.{PieceForm, as_spelled}
 use Rattle.ideal_meaning.specs.Checked.{Taking, Cause, checked_mode_as}
-use Rattle.ideal_meaning.specs.Agreement.{Follows, Parts}
+use Rattle.ideal_meaning.specs.Agreement.{FollowsIdeal, Parts}
 use Rattle.ideal_meaning.proofs.Grows.{grows_call}
 use Rattle.ideal_meaning.proofs.InHand.{IsHeld, AreHeld, held_inputs}
 use Rattle.ideal_meaning.proofs.Relation.{InStep, Agree}
@@ -48,7 +48,7 @@ module _ (hash : Hash) (P : Program) (form : PieceForm) (is_form : IsFormOf hash
 
 -- what agrees, as the relation says it
 pub agreement_of : {A B : Type 0} (hash : Hash) (P : Program) (Deep : Type 0) (began : Taking) (Known : A → Type 0) (project : A → B) (ideal : Run ⊥ (List Opened) A) (checked : Run Cause Taking B)
-    → Agree hash P (as_spelled hash P) Deep began Known project ideal checked → Follows hash P project began ideal checked ⊎ Parts hash P began ideal checked
+    → Agree hash P (as_spelled hash P) Deep began Known project ideal checked → FollowsIdeal hash P project began ideal checked ⊎ Parts hash P began ideal checked
 agreement_of hash P Deep began Known project (Gives a k s) checked (inl h) = inl (h.1.0, h.1.1, h.1.2.honest)
 agreement_of hash P Deep began Known project (Ends stop k s) checked (inl h) = inl (h.0, h.1, h.2.honest)
 agreement_of hash P Deep began Known project ideal checked (inr p) = inr p.parts

@@ -15,7 +15,7 @@ use Rattle.ideal_meaning.specs.Ideal.{Opened, ideal, outcome, outcome_projection
 use Rattle.ideal_meaning.specs.PieceForms.{as_spelled}
 use Rattle.ideal_meaning.specs.Frames.{Offer, NoMore, Offers, offered, offered_pieces, honest_frames, frame_bytes, proof_file}
 use Rattle.ideal_meaning.specs.Checked.{Taking, Cause, checked, before_all, Verdict, Accepted, with_rest, judge, with_header, with_argument, with_state, on_argument, on_state, verdict_on}
-use Rattle.ideal_meaning.specs.Headline.{call_of, Companion}
+use Rattle.ideal_meaning.specs.Headline.{call_values, Companion}
 use Rattle.ideal_meaning.specs.FollowingLaws.{CompanionOfFrames, VerdictIsOnFrames}
 use Rattle.ideal_meaning.specs.Agreement.{AllOpenedFit, honest_so_far, OffersOther, IsRefused}
 use Rattle.ideal_meaning.proofs.FramesBack.{last_left, AllShort, frames_back, header_back, behind_header, offer_of, offers_of}
@@ -104,7 +104,7 @@ module _ (hash : Hash) (is_hash : IsHash hash) (P : Program) (format : IsFormat 
     (state argument : Value) (state_ideal : IsIdeal P.types P.state state) (argument_ideal : IsIdeal P.types t argument)
     (state_fits : Fits P P.state state) (argument_fits : Fits P t argument) (state_deep : AuthWithin P.format.limit P.types P.state state) (k : ℕ) where
   abbrev args : Values
-  args = call_of state argument
+  args = call_values state argument
 
   abbrev state_projected : Value
   state_projected = projection hash P P.state state
@@ -144,9 +144,9 @@ module _ (hash : Hash) (is_hash : IsHash hash) (P : Program) (format : IsFormat 
       (honest_held hash is_hash P format typed f args k ideals fits deep)
 
   frames_judged : (n : ℕ) → n ≤ P.format.most_kept → (recent : List (List ℕ))
-      → judge hash P f (call_of state_projected argument_projected) k (frame_bytes (honest_frames n recent pieces)) n recent ≡ answered
+      → judge hash P f (call_values state_projected argument_projected) k (frame_bytes (honest_frames n recent pieces)) n recent ≡ answered
   frames_judged n small recent =
-      ap (λ ps. judge hash P f (call_of state_projected argument_projected) k (frame_bytes (honest_frames n recent ps)) n recent) pieces_are
+      ap (λ ps. judge hash P f (call_values state_projected argument_projected) k (frame_bytes (honest_frames n recent ps)) n recent) pieces_are
       ∙ ap (λ ts. judge hash P f (projections hash P ts args) k (frame_bytes (honest_frames n recent (honest_so_far hash P (state_of (ideal P f args k))))) n recent) (sym shape)
       ∙ honest_judged hash is_hash P format typed f args k ideals fits deep n small recent
       ∙ ap (λ r. Accepted (outcome_projection hash P r (outcome (ideal P f args k)))) (result_is P f kind t answer role)
@@ -167,7 +167,7 @@ module _ (hash : Hash) (is_hash : IsHash hash) (P : Program) (format : IsFormat 
 
       at_argument : ReadsBack hash P t argument
           → on_argument hash P state_projected (read_at P t (spelling argument_projected)) f k bytes n recent
-          ≡ judge hash P f (call_of state_projected argument_projected) k bytes n recent
+          ≡ judge hash P f (call_values state_projected argument_projected) k bytes n recent
       at_argument (inl r) = ap (λ q. on_argument hash P state_projected q f k bytes n recent) r.1.1
       at_argument (inr r) = absurd (r.0 argument_fits)
 
@@ -177,7 +177,7 @@ verdict_is_on_frames hash P t f state argument k bytes n good = at_state (read_a
   where
     at_argument : (s : Value) (r : Read Value) → with_argument hash P s r f k bytes ≡ on_argument hash P s r f k (drop 6 bytes) n []
     at_argument s (BadAt offset) = refl
-    at_argument s (Good a rest end) = ap (λ h. with_header hash P h f (call_of s a) k bytes) good
+    at_argument s (Good a rest end) = ap (λ h. with_header hash P h f (call_values s a) k bytes) good
 
     at_state : (r : Read Value) → with_state hash P t r argument f k bytes ≡ on_state hash P t r argument f k (drop 6 bytes) n []
     at_state (BadAt offset) = refl
@@ -186,13 +186,13 @@ verdict_is_on_frames hash P t f state argument k bytes n good = at_state (read_a
 pub companion_of_frames : CompanionOfFrames
 companion_of_frames hash is_hash P format typed f kind t answer role reads state argument state_ideal argument_ideal state_fits argument_fits state_deep k n small recent = (
   on_frames hash is_hash P format typed f kind t answer role reads state argument state_ideal argument_ideal state_fits argument_fits state_deep k n small recent,
-  after_honest P.format.limit n format.limit_fits (omega (arith, format.kept_fits)) recent (bytes_of (honest_pieces hash P f (call_of state argument) k))
+  after_honest P.format.limit n format.limit_fits (omega (arith, format.kept_fits)) recent (bytes_of (honest_pieces hash P f (call_values state argument) k))
       (pieces_short hash is_hash P format typed f kind t answer role reads state argument state_ideal argument_ideal state_fits argument_fits state_deep k),
 )
 
 pub companion : Companion
 companion hash is_hash P format typed f kind t answer role reads state argument state_ideal argument_ideal state_fits argument_fits state_deep k n small =
-    let pieces = bytes_of (honest_pieces hash P f (call_of state argument) k) in
+    let pieces = bytes_of (honest_pieces hash P f (call_values state argument) k) in
     let s = spelling (projection hash P P.state state) in
     let a = spelling (projection hash P t argument) in
     verdict_is_on_frames hash P t f s a k (proof_file P.format n pieces) n (header_back P.format n pieces format small)

@@ -13,7 +13,7 @@ use Rattle.ideal_meaning.specs.PieceForms.{as_spelled}
 use Rattle.ideal_meaning.specs.Frames.{offered, offered_pieces, header}
 use Rattle.ideal_meaning.specs.Checked.{checked, before_all, Accepted, judge, with_header, with_argument, with_state, verdict}
 use Rattle.ideal_meaning.specs.Agreement.{Agreement}
-use Rattle.ideal_meaning.specs.Headline.{call_of, TrueOrSplit, HeadlineOfFrames, Headline}
+use Rattle.ideal_meaning.specs.Headline.{call_values, TrueOrSplit, HeadlineOfFrames, Headline}
 use Rattle.ideal_meaning.proofs.FramesBack.{frames_coherent}
 use Rattle.ideal_meaning.proofs.InHand.{IsHeld}
 use Rattle.ideal_meaning.proofs.Opening.{ReadsBack}
@@ -41,7 +41,7 @@ module _ (hash : Hash) (is_hash : IsHash hash) (P : Program) (format : IsFormat 
     (f : ℕ) (kind : Kind) (t answer : Ty) (role : IsRole P f kind t answer) (reads : ReadsState kind)
     (state argument : Value) (state_ideal : IsIdeal P.types P.state state) (argument_ideal : IsIdeal P.types t argument) (k : ℕ) (bytes : List ℕ) (o : Outcome) where
   abbrev ClaimOf : ℕ → Type 0
-  ClaimOf n = TrueOrSplit hash P f (role_result kind P.state answer) (call_of state argument) k (offered_pieces (offered P.format.limit (drop 6 bytes) n [])) o
+  ClaimOf n = TrueOrSplit hash P f (role_result kind P.state answer) (call_values state argument) k (offered_pieces (offered P.format.limit (drop 6 bytes) n [])) o
 
   abbrev Claim : Type 0
   Claim = (n : ℕ) × (header P.format bytes ≡ Some n) × ClaimOf n
@@ -52,16 +52,16 @@ module _ (hash : Hash) (is_hash : IsHash hash) (P : Program) (format : IsFormat 
   abbrev shallow_argument : Value
   shallow_argument = projection hash P t argument
 
-  at_frames : Fits P P.state state → Fits P t argument → (n : ℕ) → judge hash P f (call_of shallow_state shallow_argument) k (drop 6 bytes) n [] ≡ Accepted o → ClaimOf n
+  at_frames : Fits P P.state state → Fits P t argument → (n : ℕ) → judge hash P f (call_values shallow_state shallow_argument) k (drop 6 bytes) n [] ≡ Accepted o → ClaimOf n
   at_frames state_fits argument_fits n accepted =
       let shape = parameters_are P f kind t answer role reads in
-      let ideals : AreIdeal P.types (function_at P f).parameters (call_of state argument) = subst (λ ts. AreIdeal P.types ts (call_of state argument)) (sym shape) (state_ideal, (argument_ideal, tt)) in
-      let fits : AllFit P (function_at P f).parameters (call_of state argument) = subst (λ ts. AllFit P ts (call_of state argument)) (sym shape) (state_fits, (argument_fits, tt)) in
-      let by_parameters = subst (λ ts. judge hash P f (projections hash P ts (call_of state argument)) k (drop 6 bytes) n [] ≡ Accepted o) (sym shape) accepted in
-      subst (λ r. TrueOrSplit hash P f r (call_of state argument) k (offered_pieces (offered P.format.limit (drop 6 bytes) n [])) o) (result_is P f kind t answer role)
-      (headline_of_frames hash is_hash P format typed f (call_of state argument) k (drop 6 bytes) n [] o ideals fits by_parameters)
+      let ideals : AreIdeal P.types (function_at P f).parameters (call_values state argument) = subst (λ ts. AreIdeal P.types ts (call_values state argument)) (sym shape) (state_ideal, (argument_ideal, tt)) in
+      let fits : AllFit P (function_at P f).parameters (call_values state argument) = subst (λ ts. AllFit P ts (call_values state argument)) (sym shape) (state_fits, (argument_fits, tt)) in
+      let by_parameters = subst (λ ts. judge hash P f (projections hash P ts (call_values state argument)) k (drop 6 bytes) n [] ≡ Accepted o) (sym shape) accepted in
+      subst (λ r. TrueOrSplit hash P f r (call_values state argument) k (offered_pieces (offered P.format.limit (drop 6 bytes) n [])) o) (result_is P f kind t answer role)
+      (headline_of_frames hash is_hash P format typed f (call_values state argument) k (drop 6 bytes) n [] o ideals fits by_parameters)
 
-  at_header : Fits P P.state state → Fits P t argument → (h : Option ℕ) → header P.format bytes ≡ h → with_header hash P h f (call_of shallow_state shallow_argument) k bytes ≡ Accepted o → Claim
+  at_header : Fits P P.state state → Fits P t argument → (h : Option ℕ) → header P.format bytes ≡ h → with_header hash P h f (call_values shallow_state shallow_argument) k bytes ≡ Accepted o → Claim
   at_header state_fits argument_fits None good accepted = absurd (cc (accepted))
   at_header state_fits argument_fits (Some n) good accepted = (n, good, at_frames state_fits argument_fits n accepted)
 

@@ -84,8 +84,8 @@ module _ (hash : Hash) (P : Program) where
   abbrev pub Parts : {A B : Type 0} → Taking → Run ⊥ (List Opened) A → Run Cause Taking B → Type 0
   Parts began ideal checked = PartsAs hash P (as_spelled hash P) began ideal checked
 
-  abbrev pub Follows : {A B : Type 0} → (A → B) → Taking → Run ⊥ (List Opened) A → Run Cause Taking B → Type 0
-  Follows project began ideal checked = FollowsAs hash P (as_spelled hash P) project began ideal checked
+  abbrev pub FollowsIdeal : {A B : Type 0} → (A → B) → Taking → Run ⊥ (List Opened) A → Run Cause Taking B → Type 0
+  FollowsIdeal project began ideal checked = FollowsAs hash P (as_spelled hash P) project began ideal checked
 
 -- The relation. A typed program's function, called in both modes on ideal values within the limits and their projections, with
 -- the same fuel and whatever pieces are offered, does the same in both, the checked run in projection, or the two part at one
@@ -96,4 +96,4 @@ Agreement = (hash : Hash) → IsHash hash → (P : Program) → IsFormat P.forma
     → AreIdeal P.types (function_at P f).parameters args → AllFit P (function_at P f).parameters args
     → let ideal = call_from P ideal_mode f args k [] in
     let checked = call_from P (checked_mode hash P) f (projections hash P (function_at P f).parameters args) k began in
-    Follows hash P (projection hash P (function_at P f).result) began ideal checked ⊎ Parts hash P began ideal checked
+    FollowsIdeal hash P (projection hash P (function_at P f).result) began ideal checked ⊎ Parts hash P began ideal checked

@@ -8,7 +8,7 @@ use Rattle.core_terms.specs.Typing.{is_typed}
 use Rattle.core_terms.specs.ArrayRows.{around, seven_and_nine}
 use Rattle.ideal_meaning.specs.Run.{Run, Gives, Ends, Traps, Index, TooBig, TooDeep, DivZero}
 use Rattle.ideal_meaning.specs.Ideal.{Opened, ideal, outcome, Trapped}
-use Rattle.ideal_meaning.specs.Headline.{call_of}
+use Rattle.ideal_meaning.specs.Headline.{call_values}
 use Rattle.ideal_meaning.specs.Examples.{values, operands, function, program, expression_program}
 use Rattle.ideal_meaning.specs.ExampleRuns.{alone}
 
@@ -24,13 +24,13 @@ two_ints_program = program [] (VecTy 2 IntTy) (
 pub two_ints_program_is_typed : is_typed two_ints_program ≡ true
 two_ints_program_is_typed = refl
 
-pub second_of_two : ideal two_ints_program 0 (call_of seven_and_nine (IntV (pos 1))) 1 ≡ Gives (IntV (pos 9)) 0 []
+pub second_of_two : ideal two_ints_program 0 (call_values seven_and_nine (IntV (pos 1))) 1 ≡ Gives (IntV (pos 9)) 0 []
 second_of_two = refl
 
-pub no_third : ideal two_ints_program 0 (call_of seven_and_nine (IntV (pos 2))) 1 ≡ Ends (Traps Index) 0 []
+pub no_third : ideal two_ints_program 0 (call_values seven_and_nine (IntV (pos 2))) 1 ≡ Ends (Traps Index) 0 []
 no_third = refl
 
-pub none_before_the_first : ideal two_ints_program 0 (call_of seven_and_nine (IntV (negsuc 0))) 1 ≡ Ends (Traps Index) 0 []
+pub none_before_the_first : ideal two_ints_program 0 (call_values seven_and_nine (IntV (negsuc 0))) 1 ≡ Ends (Traps Index) 0 []
 none_before_the_first = refl
 
 -- what an expression of a type gives, where the locals are these

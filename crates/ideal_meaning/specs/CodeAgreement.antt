@@ -8,7 +8,7 @@ use Rattle.core_terms.specs.Projection.{projection, projections, AllFit}
 use Rattle.ideal_meaning.specs.Run.{Run}
 use Rattle.ideal_meaning.specs.Ideal.{ideal_mode}
 use Rattle.ideal_meaning.specs.Checked.{Taking, checked_mode}
-use Rattle.ideal_meaning.specs.Agreement.{Follows, Parts}
+use Rattle.ideal_meaning.specs.Agreement.{FollowsIdeal, Parts}
 use Rattle.core_terms.specs.Bodies.{Body, code_at}
 use Rattle.ideal_meaning.specs.Execution.{Coded, Ran, call_code}
 use Rattle.core_terms.specs.Accepted.{IsAccepted}
@@ -32,6 +32,6 @@ CodeAgreement = (hash : Hash) → IsHash hash → (format : Format) → IsFormat
     let parameters = (code_at B f).parameters in
     let result = (code_at B f).result in
     AreIdeal B.types parameters args → AllFit P parameters args
-    → BothRan (λ ideal checked. Follows hash P (projection hash P result) began ideal checked ⊎ Parts hash P began ideal checked)
+    → BothRan (λ ideal checked. FollowsIdeal hash P (projection hash P result) began ideal checked ⊎ Parts hash P began ideal checked)
     (call_code B ideal_mode nesting f args k [])
     (call_code B (checked_mode hash P) nesting f (projections hash P parameters args) k began)

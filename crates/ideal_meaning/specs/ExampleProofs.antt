@@ -13,7 +13,7 @@ use Rattle.ideal_meaning.specs.Run.{Overflow}
 use Rattle.ideal_meaning.specs.Ideal.{ideal, outcome, outcome_projection, Done, Trapped, Out, honest_pieces, bytes_of}
 use Rattle.ideal_meaning.specs.Frames.{offered, offered_pieces, proof_file}
 use Rattle.ideal_meaning.specs.Checked.{Short, Cut, BadKind, PieceLong, BadUse, WrongPiece, BadPiece, Header, Leftover, Verdict, BadState, BadArgument, Accepted, Rejected, verdict, IsSplitAt}
-use Rattle.ideal_meaning.specs.Headline.{call_of}
+use Rattle.ideal_meaning.specs.Headline.{call_values}
 use Rattle.ideal_meaning.specs.Examples.{toy, unit_program, bool_program, two_bools_program, nested_program, text_program, pair_program}
 
 -- a proof file of the first format: its magic, and the bytes behind that
@@ -148,16 +148,16 @@ pub other_flip_is_accepted : verdict toy bool_program UnitTy 2 (toy (0 ∷ [])) 
 other_flip_is_accepted = refl
 
 pub flip_is_projected : (hash : Hash)
-    → outcome_projection hash bool_program (PairTy (AuthTy BoolTy) BoolTy) (outcome (ideal bool_program 2 (call_of (BoolV true) UnitV) 1))
+    → outcome_projection hash bool_program (PairTy (AuthTy BoolTy) BoolTy) (outcome (ideal bool_program 2 (call_values (BoolV true) UnitV) 1))
     ≡ Done (PairV (DigestV (hash (0 ∷ []))) (BoolV true))
 flip_is_projected hash = refl
 
 -- The outer piece has the digest of the inner one, which has no bytes.
 pub nested_pieces_are_accepted : verdict toy nested_program UnitTy 1 (toy (toy [])) [] 1
-    (proof_file (first_format 1024) 0 (bytes_of (honest_pieces toy nested_program 1 (call_of UnitV UnitV) 1))) ≡ Accepted (Done UnitV)
+    (proof_file (first_format 1024) 0 (bytes_of (honest_pieces toy nested_program 1 (call_values UnitV UnitV) 1))) ≡ Accepted (Done UnitV)
 nested_pieces_are_accepted = refl
 
-pub nested_proof_has_48_bytes : length (proof_file (first_format 1024) 0 (bytes_of (honest_pieces toy nested_program 1 (call_of UnitV UnitV) 1))) ≡ 48
+pub nested_proof_has_48_bytes : length (proof_file (first_format 1024) 0 (bytes_of (honest_pieces toy nested_program 1 (call_values UnitV UnitV) 1))) ≡ 48
 nested_proof_has_48_bytes = refl
 
 -- a piece of as many bytes as the format allows
@@ -175,7 +175,7 @@ pub forged_answer_is_accepted : verdict toy pair_program UnitTy 1 (toy (1 ∷ 0 
 forged_answer_is_accepted = refl
 
 pub forged_piece_splits : IsSplitAt (digest_at toy pair_program) (offered_pieces (offered 65536 (drop 6 forged_file) 0 []))
-    (honest_pieces toy pair_program 1 (call_of (PairV (BoolV true) (BoolV false)) UnitV) 1) 0
+    (honest_pieces toy pair_program 1 (call_values (PairV (BoolV true) (BoolV false)) UnitV) 1) 0
 forged_piece_splits = (λ e. subst (λ bytes. T (bytes_eq bytes (0 ∷ 1 ∷ []))) e tt, refl)
 
 -- The piece `03 02` too has the digest, and is no spelling of two bools: rejected, and a split all the same.
@@ -186,5 +186,5 @@ pub garbled_piece_is_no_spelling : verdict toy pair_program UnitTy 1 (toy (1 ∷
 garbled_piece_is_no_spelling = refl
 
 pub garbled_piece_splits : IsSplitAt (digest_at toy pair_program) (offered_pieces (offered 65536 (drop 6 garbled_file) 0 []))
-    (honest_pieces toy pair_program 1 (call_of (PairV (BoolV true) (BoolV false)) UnitV) 1) 0
+    (honest_pieces toy pair_program 1 (call_values (PairV (BoolV true) (BoolV false)) UnitV) 1) 0
 garbled_piece_splits = (λ e. subst (λ bytes. T (bytes_eq bytes (3 ∷ 2 ∷ []))) e tt, refl)

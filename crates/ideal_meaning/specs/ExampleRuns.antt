@@ -11,7 +11,7 @@ use Rattle.core_terms.specs.RoleTypes.{IsPlain, IsRole}
 use Rattle.core_terms.specs.Projection.{projection}
 use Rattle.ideal_meaning.specs.Run.{Run, Gives, Ends, Traps, Overflow, DivZero, TooBig, fuel_of}
 use Rattle.ideal_meaning.specs.Ideal.{Opened, ideal, outcome, Done, Out, honest_pieces, bytes_of}
-use Rattle.ideal_meaning.specs.Headline.{call_of}
+use Rattle.ideal_meaning.specs.Headline.{call_values}
 use Rattle.ideal_meaning.specs.Examples.{values, unit_program, bool_program, two_bools_program, nested_program, text_program, spin_program, pair_program, expression_program}
 
 -- every example is well-typed
@@ -58,23 +58,23 @@ pub put_is_an_update : IsRole spin_program 2 Update (PairTy IntTy BoolTy) IntTy
 put_is_an_update = record { function = _; there = refl; entered = refl; of_kind = refl; parameters = refl; result = refl; plain = int_and_bool_are_plain }
 
 -- The entry call takes a unit of fuel. Without it the outcome is Out, and nothing is opened.
-pub open_is_done : ideal unit_program 1 (call_of UnitV UnitV) 1 ≡ Gives UnitV 0 (record { ty = UnitTy; value = UnitV } ∷ [])
+pub open_is_done : ideal unit_program 1 (call_values UnitV UnitV) 1 ≡ Gives UnitV 0 (record { ty = UnitTy; value = UnitV } ∷ [])
 open_is_done = refl
 
-pub open_is_out : outcome (ideal unit_program 1 (call_of UnitV UnitV) 0) ≡ Out
+pub open_is_out : outcome (ideal unit_program 1 (call_values UnitV UnitV) 0) ≡ Out
 open_is_out = refl
 
-pub nothing_is_opened_without_fuel : (hash : Hash) → honest_pieces hash unit_program 1 (call_of UnitV UnitV) 0 ≡ []
+pub nothing_is_opened_without_fuel : (hash : Hash) → honest_pieces hash unit_program 1 (call_values UnitV UnitV) 0 ≡ []
 nothing_is_opened_without_fuel hash = refl
 
 -- A recursion from 3 makes four calls, and the update that enters it one.
-pub put_makes_five_calls : ideal spin_program 2 (call_of (BoolV true) (PairV (IntV (pos 3)) (BoolV true))) 100 ≡ Gives (PairV (BoolV true) (IntV (pos 0))) 95 []
+pub put_makes_five_calls : ideal spin_program 2 (call_values (BoolV true) (PairV (IntV (pos 3)) (BoolV true))) 100 ≡ Gives (PairV (BoolV true) (IntV (pos 0))) 95 []
 put_makes_five_calls = refl
 
-pub put_is_done_with_five : outcome (ideal spin_program 2 (call_of (BoolV true) (PairV (IntV (pos 3)) (BoolV true))) 5) ≡ Done (PairV (BoolV true) (IntV (pos 0)))
+pub put_is_done_with_five : outcome (ideal spin_program 2 (call_values (BoolV true) (PairV (IntV (pos 3)) (BoolV true))) 5) ≡ Done (PairV (BoolV true) (IntV (pos 0)))
 put_is_done_with_five = refl
 
-pub put_is_out_with_four : outcome (ideal spin_program 2 (call_of (BoolV true) (PairV (IntV (pos 3)) (BoolV true))) 4) ≡ Out
+pub put_is_out_with_four : outcome (ideal spin_program 2 (call_values (BoolV true) (PairV (IntV (pos 3)) (BoolV true))) 4) ≡ Out
 put_is_out_with_four = refl
 
 -- of the most fuel that a call may have, what isn't spent is left
@@ -88,32 +88,32 @@ make_gives_the_value = refl
 pub true_is_projected : (hash : Hash) → projection hash bool_program (AuthTy BoolTy) (BoolV true) ≡ DigestV (hash (1 ∷ []))
 true_is_projected hash = refl
 
-pub flip_gives_both : ideal bool_program 2 (call_of (BoolV true) UnitV) 1 ≡ Gives (PairV (BoolV false) (BoolV true)) 0 (record { ty = BoolTy; value = BoolV true } ∷ [])
+pub flip_gives_both : ideal bool_program 2 (call_values (BoolV true) UnitV) 1 ≡ Gives (PairV (BoolV false) (BoolV true)) 0 (record { ty = BoolTy; value = BoolV true } ∷ [])
 flip_gives_both = refl
 
 -- a trap keeps what was opened before it
-pub over_traps : ideal bool_program 3 (call_of (BoolV true) UnitV) 1 ≡ Ends (Traps Overflow) 0 (record { ty = BoolTy; value = BoolV true } ∷ [])
+pub over_traps : ideal bool_program 3 (call_values (BoolV true) UnitV) 1 ≡ Ends (Traps Overflow) 0 (record { ty = BoolTy; value = BoolV true } ∷ [])
 over_traps = refl
 
 -- Pieces are noted in the order of their opening, each time anew.
-pub both_opens_twice : (hash : Hash) → bytes_of (honest_pieces hash bool_program 1 (call_of (BoolV true) UnitV) 1) ≡ (1 ∷ []) ∷ (1 ∷ []) ∷ []
+pub both_opens_twice : (hash : Hash) → bytes_of (honest_pieces hash bool_program 1 (call_values (BoolV true) UnitV) 1) ≡ (1 ∷ []) ∷ (1 ∷ []) ∷ []
 both_opens_twice hash = refl
 
-pub three_gives_all : outcome (ideal two_bools_program 1 (call_of (PairV (BoolV true) (BoolV false)) UnitV) 1) ≡ Done (PairV (BoolV true) (PairV (BoolV false) (BoolV true)))
+pub three_gives_all : outcome (ideal two_bools_program 1 (call_values (PairV (BoolV true) (BoolV false)) UnitV) 1) ≡ Done (PairV (BoolV true) (PairV (BoolV false) (BoolV true)))
 three_gives_all = refl
 
-pub three_opens_in_order : (hash : Hash) → bytes_of (honest_pieces hash two_bools_program 1 (call_of (PairV (BoolV true) (BoolV false)) UnitV) 1) ≡ (1 ∷ []) ∷ (0 ∷ []) ∷ (1 ∷ []) ∷ []
+pub three_opens_in_order : (hash : Hash) → bytes_of (honest_pieces hash two_bools_program 1 (call_values (PairV (BoolV true) (BoolV false)) UnitV) 1) ≡ (1 ∷ []) ∷ (0 ∷ []) ∷ (1 ∷ []) ∷ []
 three_opens_in_order hash = refl
 
 -- What stands inside an authenticated value is in its piece as a digest.
 pub nested_value_is_projected : (hash : Hash) → projection hash nested_program (AuthTy (AuthTy UnitTy)) UnitV ≡ DigestV (hash (hash []))
 nested_value_is_projected hash = refl
 
-pub deep_opens_outer_then_inner : (hash : Hash) → bytes_of (honest_pieces hash nested_program 1 (call_of UnitV UnitV) 1) ≡ hash [] ∷ [] ∷ []
+pub deep_opens_outer_then_inner : (hash : Hash) → bytes_of (honest_pieces hash nested_program 1 (call_values UnitV UnitV) 1) ≡ hash [] ∷ [] ∷ []
 deep_opens_outer_then_inner hash = refl
 
 -- the longest text is opened whole
-pub size_is_counted : outcome (ideal text_program 1 (call_of (TextV (replicate 65532 0x61)) UnitV) 1) ≡ Done (IntV (pos 65532))
+pub size_is_counted : outcome (ideal text_program 1 (call_values (TextV (replicate 65532 0x61)) UnitV) 1) ≡ Done (IntV (pos 65532))
 size_is_counted = refl
 
 -- The outcome of an expression without locals.

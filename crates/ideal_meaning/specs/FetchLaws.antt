@@ -14,7 +14,7 @@ use Rattle.ideal_meaning.specs.PieceForms.{IsOfWhole}
 use Rattle.ideal_meaning.specs.Frames.{offered_pieces}
 use Rattle.ideal_meaning.specs.Checked.{Accepted, IsSplitAt}
 use Rattle.ideal_meaning.specs.Agreement.{AllOpenedFit}
-use Rattle.ideal_meaning.specs.Headline.{call_of}
+use Rattle.ideal_meaning.specs.Headline.{call_values}
 use Rattle.ideal_meaning.specs.Fetched.{Answered, Got, HoldsAll, IsBroken, IsLack, IsPiece, TrueFromOrSplit, answered, asking, fetched, verdict_from, whole_pieces}
 
 -- Whatever is answered: what is accepted is true, or there is a split.
@@ -24,8 +24,8 @@ FetchHeadline = (hash : Hash) → IsHash hash → (P : Program) → IsFormat P.f
     → (state argument : Value) → IsIdeal P.types P.state state → IsIdeal P.types t argument
     → (k : ℕ) (answers : List Got) (o : Outcome)
     → verdict_from hash P t f (spelling (projection hash P P.state state)) (spelling (projection hash P t argument)) k answers ≡ Accepted o
-    → TrueFromOrSplit hash P f (role_result kind P.state answer) (call_of state argument) k (offered_pieces (answered answers))
-    (offered_pieces (state_of (fetched hash P f (call_of (projection hash P P.state state) (projection hash P t argument)) k (asking answers))).more) o
+    → TrueFromOrSplit hash P f (role_result kind P.state answer) (call_values state argument) k (offered_pieces (answered answers))
+    (offered_pieces (state_of (fetched hash P f (call_values (projection hash P P.state state) (projection hash P t argument)) k (asking answers))).more) o
 
 -- a piece with this digest
 abbrev pub HasDigest : Hash → Got → List ℕ → Type 0
@@ -44,10 +44,10 @@ FetchCompanion = (hash : Hash) → IsHash hash → (P : Program) → IsFormat P.
     → (f : ℕ) (kind : Kind) (t answer : Ty) → IsRole P f kind t answer → ReadsState kind
     → (state argument : Value) → IsIdeal P.types P.state state → IsIdeal P.types t argument
     → Fits P P.state state → Fits P t argument
-    → (k : ℕ) → AllOpenedFit P (state_of (ideal P f (call_of state argument) k))
-    → (get : List ℕ → Got) → IsStore hash get → HoldsAll hash P get (state_of (ideal P f (call_of state argument) k))
+    → (k : ℕ) → AllOpenedFit P (state_of (ideal P f (call_values state argument) k))
+    → (get : List ℕ → Got) → IsStore hash get → HoldsAll hash P get (state_of (ideal P f (call_values state argument) k))
     → (answers : List Got)
     → let verdict = verdict_from hash P t f (spelling (projection hash P P.state state)) (spelling (projection hash P t argument)) k answers in
     Answered {A = Unit {0}} hash (λ old d a new. a ≡ get d) tt answers verdict tt
-    → (verdict ≡ Accepted (outcome_projection hash P (role_result kind P.state answer) (outcome (ideal P f (call_of state argument) k))))
-    ⊎ ((i : ℕ) × IsSplitAt (λ t bytes. hash bytes) (offered_pieces (answered answers)) (whole_pieces hash P f (call_of state argument) k) i)
+    → (verdict ≡ Accepted (outcome_projection hash P (role_result kind P.state answer) (outcome (ideal P f (call_values state argument) k))))
+    ⊎ ((i : ℕ) × IsSplitAt (λ t bytes. hash bytes) (offered_pieces (answered answers)) (whole_pieces hash P f (call_values state argument) k) i)

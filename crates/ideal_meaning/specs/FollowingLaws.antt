@@ -11,7 +11,7 @@ use Rattle.core_terms.specs.Projection.{projection, Fits}
 use Rattle.ideal_meaning.specs.Ideal.{outcome, outcome_projection, ideal, honest_pieces, bytes_of}
 use Rattle.ideal_meaning.specs.Frames.{header, honest_frames, frame_bytes}
 use Rattle.ideal_meaning.specs.Checked.{Accepted, verdict, verdict_on}
-use Rattle.ideal_meaning.specs.Headline.{call_of}
+use Rattle.ideal_meaning.specs.Headline.{call_values}
 use Rattle.ideal_meaning.specs.Following.{after_bytes, after_frames, after_within}
 
 -- The frames of an honest prover for pieces within the limit, over whatever pieces came before, leave as bytes the new pieces
@@ -40,7 +40,7 @@ CompanionOfFrames = (hash : Hash) → IsHash hash → (P : Program) → IsFormat
     → Fits P P.state state → Fits P t argument
     → AuthWithin P.format.limit P.types P.state state
     → (k n : ℕ) → n ≤ P.format.most_kept → (recent : List (List ℕ))
-    → let frames = honest_frames n recent (bytes_of (honest_pieces hash P f (call_of state argument) k)) in
+    → let frames = honest_frames n recent (bytes_of (honest_pieces hash P f (call_values state argument) k)) in
     (verdict_on hash P t f (spelling (projection hash P P.state state)) (spelling (projection hash P t argument)) k (frame_bytes frames) n recent
-    ≡ Accepted (outcome_projection hash P (role_result kind P.state answer) (outcome (ideal P f (call_of state argument) k))))
+    ≡ Accepted (outcome_projection hash P (role_result kind P.state answer) (outcome (ideal P f (call_values state argument) k))))
     × (after_bytes P.format.limit (frame_bytes frames) n recent ≡ after_frames frames recent)

@@ -8,7 +8,7 @@ use Rattle.core_terms.specs.Roles.{role_named}
 use Rattle.core_terms.specs.RoleTypes.{IsPlain, IsRole}
 use Rattle.ideal_meaning.specs.Run.{Run, Gives, Ends, first_in, state_of}
 use Rattle.ideal_meaning.specs.Ideal.{Opened, Outcome, Done, ideal, outcome}
-use Rattle.ideal_meaning.specs.Headline.{call_of}
+use Rattle.ideal_meaning.specs.Headline.{call_values}
 use Rattle.ideal_meaning.specs.Examples.{values}
 use Rattle.ideal_meaning.specs.Library.{bst, merkle, found}
 
@@ -57,11 +57,11 @@ given (Ends stop k seen) = UnitV
 -- the state after these calls of an update, one after another
 abbrev pub after : Program → ℕ → Value → List Value → Value
 after P f state [] = state
-after P f state (argument ∷ later) = after P f (first_in (given (ideal P f (call_of state argument) 1000000000000))) later
+after P f state (argument ∷ later) = after P f (first_in (given (ideal P f (call_values state argument) 1000000000000))) later
 
 -- how a query ends on a state
 abbrev pub asked : Program → ℕ → Value → Value → Outcome
-asked P f state argument = outcome (ideal P f (call_of state argument) 1000000000000)
+asked P f state argument = outcome (ideal P f (call_values state argument) 1000000000000)
 
 -- the two answers of a get
 abbrev pub is_missing : Outcome
@@ -95,10 +95,10 @@ pub key_never_put_is_missing : asked bst 3 after_eight (IntV (pos 7)) ≡ is_mis
 key_never_put_is_missing = refl
 
 -- a get opens one node on each level: the root's key at once, the key 9 behind 5 and 8
-pub root_is_opened_alone : length (state_of (ideal bst 3 (call_of after_eight (IntV (pos 5))) 1000000000000)) ≡ 1
+pub root_is_opened_alone : length (state_of (ideal bst 3 (call_values after_eight (IntV (pos 5))) 1000000000000)) ≡ 1
 root_is_opened_alone = refl
 
-pub three_nodes_are_opened : length (state_of (ideal bst 3 (call_of after_eight (IntV (pos 9))) 1000000000000)) ≡ 3
+pub three_nodes_are_opened : length (state_of (ideal bst 3 (call_values after_eight (IntV (pos 9))) 1000000000000)) ≡ 3
 three_nodes_are_opened = refl
 
 -- Four places that hold 7, and then 40 at place 2.

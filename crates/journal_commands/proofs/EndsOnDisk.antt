@@ -6,7 +6,7 @@ use Rattle.std.specs.Io.KnownBytes.{append_known}
 use Rattle.std.proofs.lemmas.List.{append-nil}
 use Rattle.command_words.specs.Commands.{texts}
 use Rattle.lam_outside.specs.Told.{Contents, Stores}
-use Rattle.file_commands.specs.Answer.{Answer}
+use Rattle.file_commands.specs.AnswerForms.{Answer}
 use Rattle.file_commands.specs.Ending.{EndsAs, IsToldAs, Outside, StoresSome}
 use Rattle.file_commands.specs.Halting.{HaltsAs}
 use Rattle.file_commands.specs.Storing.{FindsOutput, StoresAndTells}

@@ -4,7 +4,9 @@ use Rattle.core_terms.specs.ProgramFormats.{format_with}
 use Rattle.core_terms.specs.Types.{UnitTy}
 use Rattle.core_terms.specs.declared.format.Format.TheVariants.{First}
 use Rattle.lam_outside.specs.Told.{Contents}
-use Rattle.file_commands.specs.Answer.{Answer, Founding, with_image_bytes, with_program_file}
+use Rattle.file_commands.specs.Answer.{Founding}
+use Rattle.file_commands.specs.FileInputs.{with_image_bytes, with_program_file}
+use Rattle.file_commands.specs.AnswerForms.{Answer}
 use Rattle.file_commands.specs.FueledRoles.{NamedProgram}
 use Rattle.file_commands.specs.Halting.{HaltsAs}
 use Rattle.file_commands.specs.declared.report.Halt.{Halt}

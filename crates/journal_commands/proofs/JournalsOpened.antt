@@ -16,7 +16,7 @@ use Rattle.version_journal.specs.declared.fault.DiskCount.TheVariants.{Reads, Wr
 use Rattle.version_journal.specs.declared.fault.JournalFault.{JournalFault}
 use Rattle.version_journal.specs.declared.fault.JournalFault.TheVariants as fault
 use Rattle.version_journal.specs.declared.opening.Opened.{Opened}
-use Rattle.file_commands.specs.Answer.{Answer}
+use Rattle.file_commands.specs.AnswerForms.{Answer}
 use Rattle.file_commands.specs.FueledRoles.{DigestedProgram}
 use Rattle.file_commands.specs.Storing.{FindsOutput}
 use Rattle.file_commands.specs.declared.report.Output.{Output}

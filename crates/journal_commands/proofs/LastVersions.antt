@@ -26,7 +26,7 @@ use Rattle.value_store.specs.Stores.{nodes_in}
 use Rattle.value_store.specs.declared.node.Ref.{Ref}
 use Rattle.value_store.specs.declared.store.Store.{Store}
 use Rattle.value_store.proofs.ProverNodes.{shown_ideal}
-use Rattle.file_commands.specs.Answer.{says}
+use Rattle.file_commands.specs.AnswerForms.{says}
 use Rattle.file_commands.specs.declared.status.Status.TheVariants.{Done}
 use Rattle.file_commands.proofs.MarkedStates.{saved_by_types}
 use Rattle.journal_commands.specs.JournalAnswers.{last_of}

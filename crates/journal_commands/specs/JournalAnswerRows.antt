@@ -17,7 +17,8 @@ use Rattle.version_journal.specs.JournalRows.{gated, flip, new_journal, own, tru
 use Rattle.version_journal.specs.Journals as journals
 use Rattle.version_journal.specs.declared.fault.DiskCount.TheVariants.{Reads, Writes}
 use Rattle.version_journal.specs.declared.fault.JournalFault.TheVariants as fault
-use Rattle.file_commands.specs.Answer.{Answer, Founding}
+use Rattle.file_commands.specs.Answer.{Founding}
+use Rattle.file_commands.specs.AnswerForms.{Answer}
 use Rattle.file_commands.specs.Ending.{Outside}
 use Rattle.file_commands.specs.FueledRoles.{DigestedProgram}
 use Rattle.file_commands.specs.declared.report.Halt.TheVariants.{Usage, Refused, ReadFault, NoMemory}

@@ -9,7 +9,10 @@ use Rattle.printed_lines.specs.declared.refusal.JournalKind.TheVariants as kind
 use Rattle.session_meaning.specs.Server.{Shared, version_at}
 use Rattle.version_journal.specs.Journals.{Faulty, Holds, Journal, JournalFault, journal_of}
 use Rattle.version_journal.specs.Journals as journals
-use Rattle.file_commands.specs.Answer.{Answer, image_kind, input_refused, says, storing, with_founding, with_program_file}
+use Rattle.file_commands.specs.Answer.{with_founding}
+use Rattle.file_commands.specs.OutcomeAnswers.{storing}
+use Rattle.file_commands.specs.FileInputs.{image_kind, with_program_file}
+use Rattle.file_commands.specs.AnswerForms.{Answer, input_refused, says}
 use Rattle.file_commands.specs.FueledRoles.{DigestedProgram}
 use Rattle.file_commands.specs.declared.status.Status.TheVariants.{Done}
 

@@ -1,6 +1,6 @@
 -- What the work of a command on a disk found, before it is told.
 use Rattle.std.specs.Prelude.{◌≡◌, List, [], ℕ, Option, Some, Result, Ok, Err, ⊤}
-use Rattle.file_commands.specs.Answer.{Answer}
+use Rattle.file_commands.specs.AnswerForms.{Answer}
 use Rattle.file_commands.specs.Halting.{HaltsAs}
 use Rattle.file_commands.specs.Storing.{FindsOutput}
 use Rattle.file_commands.specs.declared.report.Output.{Output}

@@ -14,12 +14,12 @@ abbrev pub remaining : Parser → Tokens
 remaining parser = tokens_left parser.lexer
 
 -- The first token is taken and the others remain; or none stands there, and this is the fault.
-abbrev pub Takes : Tokens → Result PlacedToken SyntaxFault → Tokens → Type 0
-Takes before (Ok placed) after = before ≡ Next placed.at (token_view placed.token) after
-Takes before (Err (At Expected at)) after = before ≡ End at
-Takes before (Err (At (Lexical kind) at)) after = before ≡ Faulty at kind
-Takes before (Err (At TooNested at)) after = ⊥
-Takes before (Err NoMemory) after = ⊤
+abbrev pub TakesToken : Tokens → Result PlacedToken SyntaxFault → Tokens → Type 0
+TakesToken before (Ok placed) after = before ≡ Next placed.at (token_view placed.token) after
+TakesToken before (Err (At Expected at)) after = before ≡ End at
+TakesToken before (Err (At (Lexical kind) at)) after = before ≡ Faulty at kind
+TakesToken before (Err (At TooNested at)) after = ⊥
+TakesToken before (Err NoMemory) after = ⊤
 
 -- Ok gives what is read, as `view` shows it, and these tokens remain; a refusal gives the first fault
 abbrev pub Reads : {A B : Type 0} → (A → B) → Reading B → Result A SyntaxFault → Tokens → Type 0

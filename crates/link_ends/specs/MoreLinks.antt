@@ -8,8 +8,8 @@ abbrev pub bytes_on : Linked → List ℕ
 bytes_on link = link.given ++ link.left
 
 -- of the bytes that come these were taken, and those behind them are left
-abbrev pub Takes : (bytes taken : List ℕ) (left' : Option (List ℕ)) → Type 0
-Takes bytes taken left' = (rest : List ℕ) × (bytes ≡ taken ++ rest) × (left' ≡ Some rest)
+abbrev pub TakesBytes : (bytes taken : List ℕ) (left' : Option (List ℕ)) → Type 0
+TakesBytes bytes taken left' = (rest : List ℕ) × (bytes ≡ taken ++ rest) × (left' ≡ Some rest)
 
 -- Where the links are told, there are some more, all to this port.
 pub record AreMore (port : ℕ) (links : Option (List Linked)) (after : List Linked) (more : List Linked) : Type 0 where

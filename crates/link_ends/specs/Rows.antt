@@ -7,20 +7,20 @@ use Rattle.wire_form.specs.declared.message.WriteStop.TheVariants as write
 use Rattle.link_ends.specs.Ends.{is_fault}
 use Rattle.link_ends.specs.EndCauses.{EndCause, LinkCause, ServingCause}
 use Rattle.link_ends.specs.Halts.{HaltCause, halt_of}
-use Rattle.link_ends.specs.MoreLinks.{AreMore, Takes, bytes_on}
+use Rattle.link_ends.specs.MoreLinks.{AreMore, TakesBytes, bytes_on}
 use Rattle.link_ends.specs.declared.end.ConnectionEnd.TheVariants as connection
 use Rattle.link_ends.specs.declared.end.ServingEnd.TheVariants.{Served, Stopped}
 use Rattle.link_ends.specs.declared.halt.Halt.TheVariants as halt
 
 -- BYTES
 -- a front of the bytes was taken, and what is behind it is left
-pub takes : Takes (1 ∷ 2 ∷ 3 ∷ []) (1 ∷ 2 ∷ []) (Some (3 ∷ []))
+pub takes : TakesBytes (1 ∷ 2 ∷ 3 ∷ []) (1 ∷ 2 ∷ []) (Some (3 ∷ []))
 takes = (3 ∷ [], refl, refl)
 
-pub takes_no_others : Takes [] (1 ∷ []) (Some []) → ⊥
+pub takes_no_others : TakesBytes [] (1 ∷ []) (Some []) → ⊥
 takes_no_others (rest, all, left) = let e : [] ≡ 1 ∷ rest = all in cc (e)
 
-pub takes_none_untold : Takes (1 ∷ []) (1 ∷ []) None → ⊥
+pub takes_none_untold : TakesBytes (1 ∷ []) (1 ∷ []) None → ⊥
 takes_none_untold (rest, all, left) = let e : None ≡ Some rest = left in cc (e)
 
 -- CAUSES

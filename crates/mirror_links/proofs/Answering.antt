@@ -7,7 +7,7 @@ use Rattle.ideal_meaning.specs.Fetched.{Got}
 use Rattle.session_meaning.specs.FetchMessages.{IsAnswer, answer_bytes, answers_to, asked_in, asked_on}
 use Rattle.piece_mirror.specs.Answers.{answer_of, given_by}
 use Rattle.piece_mirror.specs.Mirrors.{AreShort, first_with, piece_limit}
-use Rattle.link_ends.specs.MoreLinks.{Takes}
+use Rattle.link_ends.specs.MoreLinks.{TakesBytes}
 use Rattle.link_ends.specs.declared.halt.Halt.{Halt}
 use Rattle.link_ends.specs.declared.halt.Halt.TheVariants as halt
 use Rattle.mirror_links.specs.Answered.{IsSentPart}
@@ -55,7 +55,7 @@ module _ (get : List ℕ → Got) where
       let P : List (List ℕ) → Type 0 = λ digests. IsSentPart get digests (take n (answer_bytes (get digest))) in
       subst P (sym one) (n, omega arith, subst (λ l. n ≤ length l) (sym whole) within, ap (take n) (sym whole))
 
-  none_breaks : (bytes : List ℕ) (left' sent sent' : Option (List ℕ)) (taken : List ℕ) → Takes bytes taken left' → AsksNothing taken → sent' ≡ sent
+  none_breaks : (bytes : List ℕ) (left' sent sent' : Option (List ℕ)) (taken : List ℕ) → TakesBytes bytes taken left' → AsksNothing taken → sent' ≡ sent
       → BreaksOff get bytes left' sent sent'
   none_breaks bytes left' sent sent' taken takes asks same = record {
     taken = taken;
@@ -65,7 +65,7 @@ module _ (get : List ℕ → Got) where
     part = λ most. none_part (asked_in (suc most) taken) (asks_none (suc most) taken asks);
   }
 
-  one_breaks : (bytes : List ℕ) (left' sent sent' : Option (List ℕ)) (taken digest : List ℕ) (n : ℕ) → Takes bytes taken left' → IsAskedBy taken digest
+  one_breaks : (bytes : List ℕ) (left' sent sent' : Option (List ℕ)) (taken digest : List ℕ) (n : ℕ) → TakesBytes bytes taken left' → IsAskedBy taken digest
       → n ≤ length (answer_bytes (get digest)) → sent' ≡ append_known sent (take n (answer_bytes (get digest))) → BreaksOff get bytes left' sent sent'
   one_breaks bytes left' sent sent' taken digest n takes asked within sends = record {
     taken = taken;

@@ -12,7 +12,7 @@ use Rattle.wire_form.specs.Incoming.{length_field}
 use Rattle.wire_form.specs.ReadMessages.{ReadsMessage, StopsShort}
 use Rattle.wire_form.specs.declared.message.ReadStop.{ReadStop}
 use Rattle.wire_form.specs.declared.message.ReadStop.TheVariants.{BadMessage, TooLong, End, Cut, LinkFault, NoMemory}
-use Rattle.link_ends.specs.MoreLinks.{Takes}
+use Rattle.link_ends.specs.MoreLinks.{TakesBytes}
 use Rattle.link_ends.specs.declared.halt.Halt.TheVariants as halt
 use Rattle.link_ends.proofs.Taken.{took, took_all}
 use Rattle.mirror_links.specs.Steps.{AsksNext, AsksNothing, IsAskedBy}
@@ -58,7 +58,7 @@ none_behind of k bytes a rest few e =
 
 -- a message that asks was read
 pub digest_next : (bytes rest : List ℕ) (left' : Option (List ℕ)) (digest : List ℕ) → read_fetch bytes ≡ Got digest rest → left' ≡ Some rest
-    → (taken : List ℕ) × Takes bytes taken left' × IsAskedBy taken digest
+    → (taken : List ℕ) × TakesBytes bytes taken left' × IsAskedBy taken digest
 digest_next bytes rest left' digest read told = let on = message_read fetch_of bytes digest rest read in (on.0, (rest, on.1, told), on.2)
 
 at_most_one : (k : ℕ) (bytes : List ℕ) → k ≤ 4 + length_field bytes → AsksNothing (take k bytes) ⊎ ((digest : List ℕ) × IsAskedBy (take k bytes) digest)

@@ -11,13 +11,13 @@ use Rattle.ideal_meaning.specs.Fetched.{Got}
 use Rattle.session_meaning.specs.FetchMessages.{answer_bytes, answers_sent, answers_to, asked_in, fetch_of, fetches_limit}
 use Rattle.wire_form.specs.Waits.{WaitsInside}
 use Rattle.wire_form.proofs.Coming.{short_read}
-use Rattle.link_ends.specs.MoreLinks.{Takes, but_last}
+use Rattle.link_ends.specs.MoreLinks.{TakesBytes, but_last}
 use Rattle.link_ends.specs.declared.end.ConnectionEnd.TheVariants.{Over, LinkFault, Stopped}
 use Rattle.link_ends.specs.declared.halt.Halt.{Halt}
 use Rattle.link_ends.proofs.Taken.{took}
 use Rattle.mirror_links.specs.Answered.{IsSentPart}
 use Rattle.mirror_links.specs.Prompt.{IsPrompt}
-use Rattle.mirror_links.specs.Steps.{AnswersMessage, AsksNothing, BreaksOff, Ends, GoesOn}
+use Rattle.mirror_links.specs.Steps.{AnswersMessage, AsksNothing, BreaksOff, Ends, MirrorGoesOn}
 use Rattle.mirror_links.proofs.Answering.{asks_first, asks_none}
 use Rattle.mirror_links.proofs.Asking.{short_asks}
 
@@ -68,7 +68,7 @@ module _ (get : List ℕ → Got) where
   pub record IsSoFar (count : ℕ) (bytes : List ℕ) (left' sent sent' : Option (List ℕ)) : Type 0 where
     pub taken : List ℕ
     pub digests : List (List ℕ)
-    pub takes : Takes bytes taken left'
+    pub takes : TakesBytes bytes taken left'
     pub sends : sent' ≡ append_known sent (answers_to get digests)
     pub asked : (most : ℕ) (more : List ℕ) → asked_in (count + most) (taken ++ more) ≡ digests ++ asked_in most more
 
@@ -82,7 +82,7 @@ module _ (get : List ℕ → Got) where
   }
 
   module _ (count : ℕ) (bytes : List ℕ) (left' sent sent' : Option (List ℕ)) (so_far : IsSoFar count bytes left' sent sent') where
-    takes_more : (taken : List ℕ) (left'' : Option (List ℕ)) → Takes so_far.takes.0 taken left'' → Takes bytes (so_far.taken ++ taken) left''
+    takes_more : (taken : List ℕ) (left'' : Option (List ℕ)) → TakesBytes so_far.takes.0 taken left'' → TakesBytes bytes (so_far.taken ++ taken) left''
     takes_more taken left'' takes =
         (takes.0, so_far.takes.1 ∙ ap (λ l. so_far.taken ++ l) takes.1 ∙ sym (append_assoc so_far.taken taken takes.0), takes.2)
 
@@ -90,7 +90,7 @@ module _ (get : List ℕ → Got) where
     sends_more sent'' out sends = sends ∙ ap (λ w. append_known w out) so_far.sends ∙ append_twice sent (answers_to get so_far.digests) out
 
     -- one message more
-    pub one_more : (left'' sent'' : Option (List ℕ)) → GoesOn get so_far.takes.0 left'' sent' sent'' → IsSoFar (count + 1) bytes left'' sent sent''
+    pub one_more : (left'' sent'' : Option (List ℕ)) → MirrorGoesOn get so_far.takes.0 left'' sent' sent'' → IsSoFar (count + 1) bytes left'' sent sent''
     one_more left'' sent'' on =
         let said = answer_bytes (get on.digest) in
         let all : answers_to get (so_far.digests ++ on.digest ∷ []) ≡ answers_to get so_far.digests ++ said =
@@ -123,7 +123,7 @@ module _ (get : List ℕ → Got) where
 
       -- as the next message is waited for
       prompt_now : (m : Moment) → WaitsInside so_far.takes.0 sent' m
-          → (taken : List ℕ) × Takes bytes taken m.left × (m.sent ≡ append_known sent (answers_sent limit get taken))
+          → (taken : List ℕ) × TakesBytes bytes taken m.left × (m.sent ≡ append_known sent (answers_sent limit get taken))
       prompt_now m waits =
           let t = take waits.1.taken so_far.takes.0 in
           let nothing : AsksNothing t = short_asks t (short_read fetch_of t waits.1.unfinished) in (

@@ -7,7 +7,7 @@ use Rattle.ideal_meaning.specs.Fetched.{Got}
 use Rattle.session_meaning.specs.Messages.{Stop, Got as Reads, Stops}
 use Rattle.session_meaning.specs.FetchMessages.{answer_bytes, asked_in, read_fetch}
 use Rattle.link_ends.specs.Ends.{is_fault}
-use Rattle.link_ends.specs.MoreLinks.{Takes}
+use Rattle.link_ends.specs.MoreLinks.{TakesBytes}
 use Rattle.link_ends.specs.declared.end.ConnectionEnd.{ConnectionEnd}
 use Rattle.link_ends.specs.declared.end.ConnectionEnd.TheVariants as connection
 use Rattle.link_ends.specs.declared.halt.Halt.{Halt}
@@ -26,11 +26,11 @@ AsksNothing bytes = (stop : Stop) × (read_fetch bytes ≡ Stops stop)
 -- What is asked for next, where these bytes come and some of them are taken. Where the link failed no message stands whole in those that were
 -- taken; where memory was wanting, at most one.
 abbrev pub AsksNext : (bytes : List ℕ) (left' : Option (List ℕ)) → Result (Option Digest) Halt → Type 0
-AsksNext bytes left' (Ok (Some digest)) = (taken : List ℕ) × Takes bytes taken left' × IsAskedBy taken digest.0
-AsksNext bytes left' (Ok None) = (taken : List ℕ) × Takes bytes taken left' × AsksNothing bytes
-AsksNext bytes left' (Err halt.LinkFault) = (taken : List ℕ) × Takes bytes taken left' × AsksNothing taken
+AsksNext bytes left' (Ok (Some digest)) = (taken : List ℕ) × TakesBytes bytes taken left' × IsAskedBy taken digest.0
+AsksNext bytes left' (Ok None) = (taken : List ℕ) × TakesBytes bytes taken left' × AsksNothing bytes
+AsksNext bytes left' (Err halt.LinkFault) = (taken : List ℕ) × TakesBytes bytes taken left' × AsksNothing taken
 AsksNext bytes left' (Err halt.Stopped) =
-    (taken : List ℕ) × Takes bytes taken left' × (AsksNothing taken ⊎ ((digest : List ℕ) × IsAskedBy taken digest))
+    (taken : List ℕ) × TakesBytes bytes taken left' × (AsksNothing taken ⊎ ((digest : List ℕ) × IsAskedBy taken digest))
 
 -- all of these bytes were sent, or a front of them
 abbrev pub SendsFront : (bytes : List ℕ) (sent sent' : Option (List ℕ)) → Result (Unit {0}) Halt → Type 0
@@ -39,10 +39,10 @@ SendsFront bytes sent sent' (Err stop) = (n : ℕ) × (n ≤ length bytes) × (s
 
 module _ (get : List ℕ → Got) where
   -- a digest was asked for and answered, and the connection goes on
-  pub record GoesOn (bytes : List ℕ) (left' : Option (List ℕ)) (sent sent' : Option (List ℕ)) : Type 0 where
+  pub record MirrorGoesOn (bytes : List ℕ) (left' : Option (List ℕ)) (sent sent' : Option (List ℕ)) : Type 0 where
     pub digest : List ℕ
     pub taken : List ℕ
-    pub takes : Takes bytes taken left'
+    pub takes : TakesBytes bytes taken left'
     pub asked : IsAskedBy taken digest
     pub sends : sent' ≡ append_known sent (answer_bytes (get digest))
 
@@ -50,21 +50,21 @@ module _ (get : List ℕ → Got) where
   pub record BreaksOff (bytes : List ℕ) (left' : Option (List ℕ)) (sent sent' : Option (List ℕ)) : Type 0 where
     pub taken : List ℕ
     pub out : List ℕ
-    pub takes : Takes bytes taken left'
+    pub takes : TakesBytes bytes taken left'
     pub sends : sent' ≡ append_known sent out
     pub part : (most : ℕ) → IsSentPart get (asked_in (suc most) taken) out
 
   -- a message of the connection, behind which it goes on, or not
   abbrev pub AnswersMessage : (bytes : List ℕ) (left' sent sent' : Option (List ℕ)) → Result Bool Halt → Type 0
-  AnswersMessage bytes left' sent sent' (Ok true) = GoesOn bytes left' sent sent'
-  AnswersMessage bytes left' sent sent' (Ok false) = (taken : List ℕ) × Takes bytes taken left' × AsksNothing bytes × (sent' ≡ sent)
+  AnswersMessage bytes left' sent sent' (Ok true) = MirrorGoesOn bytes left' sent sent'
+  AnswersMessage bytes left' sent sent' (Ok false) = (taken : List ℕ) × TakesBytes bytes taken left' × AsksNothing bytes × (sent' ≡ sent)
   AnswersMessage bytes left' sent sent' (Err stop) = BreaksOff bytes left' sent sent'
 
   -- the connection on which these bytes come has ended, when some of them were taken
   pub record Ends (bytes : List ℕ) (left' : Option (List ℕ)) (sent sent' : Option (List ℕ)) (end : ConnectionEnd) : Type 0 where
     pub taken : List ℕ
     pub out : List ℕ
-    pub takes : Takes bytes taken left'
+    pub takes : TakesBytes bytes taken left'
     pub sends : sent' ≡ append_known sent out
     pub answered : IsAnswered get bytes taken out end
 

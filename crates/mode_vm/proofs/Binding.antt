@@ -17,7 +17,7 @@ use Rattle.mode_vm.specs.Operands.{AllHeld}
 use Rattle.mode_vm.specs.declared.operand.Operand.{Operand}
 use Rattle.mode_vm.specs.Meanings.{mode_of}
 use Rattle.mode_vm.specs.Machines.{ValueFrame, Before}
-use Rattle.mode_vm.specs.Outcomes.{GoesOn}
+use Rattle.mode_vm.specs.Outcomes.{FrameGoesOn}
 use Rattle.mode_vm.specs.StateParts.{IsAt}
 use Rattle.mode_vm.specs.declared.frame.Frame.{Frame}
 use Rattle.mode_vm.proofs.Frames.{ToNext, fits_next, goes_on, calls}
@@ -44,7 +44,7 @@ module _ (m : Marking) (P : Program) (nodes : List Node) (frame : Frame) (c : Va
   one = one_popped (kind_of m P) P.types nodes frame.operands.items last r binds.t binds.below c.operands top
       (subst (λ os. AllHeld (kind_of m P) P.types nodes (reverse frame.operands.items) os c.operands) binds.is b.top.is.operands)
 
-  pub bound : (after : Frame) → IsAt frame (frame.place + 1) (frame.locals.items ++ r ∷ []) last after → GoesOn m P nodes frame c after
+  pub bound : (after : Frame) → IsAt frame (frame.place + 1) (frame.locals.items ++ r ∷ []) last after → FrameGoesOn m P nodes frame c after
   bound after at =
       let here : frame.place + 1 ≡ frame.place + 1 + 0 = omega arith in
       goes_on m P nodes nodes frame after Bind c b 0 (frame.locals.items ++ r ∷ []) last (c.local_types ++ binds.t ∷ []) binds.below (join c.locals (AndV one.x NoV)) one.below
@@ -102,7 +102,7 @@ module _ (m : Marking) (P : Program) (nodes : List Node) (frame : Frame) (n : �
   pub unbind_enough : n ≤ length frame.locals.items
   unbind_enough = let l = all_locals in omega (arith, l)
 
-  pub unbound : (after : Frame) → IsAt frame (frame.place + 1) (take (length frame.locals.items - n) frame.locals.items) frame.operands.items after → GoesOn m P nodes frame c after
+  pub unbound : (after : Frame) → IsAt frame (frame.place + 1) (take (length frame.locals.items - n) frame.locals.items) frame.operands.items after → FrameGoesOn m P nodes frame c after
   unbound after at =
       let here : frame.place + 1 ≡ frame.place + 1 + 0 = omega arith in
       let l = all_locals in

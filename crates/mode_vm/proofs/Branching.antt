@@ -17,7 +17,7 @@ use Rattle.mode_vm.specs.Operands.{AllHeld, IsHeld}
 use Rattle.mode_vm.specs.declared.operand.Operand.{Operand}
 use Rattle.mode_vm.specs.Meanings.{CauseOf, StateOf, mode_of}
 use Rattle.mode_vm.specs.Machines.{ValueFrame, Before}
-use Rattle.mode_vm.specs.Outcomes.{Acts, GoesOn}
+use Rattle.mode_vm.specs.Outcomes.{Acts, FrameGoesOn}
 use Rattle.mode_vm.specs.StateParts.{IsAt, Finishes}
 use Rattle.mode_vm.specs.declared.frame.Frame.{Frame}
 use Rattle.mode_vm.proofs.Frames.{ToNext, fits_next, goes_on, calls}
@@ -83,14 +83,14 @@ module _ (m : Marking) (P : Program) (nodes : List Node) (frame : Frame) (skip :
       ∙ ap (λ x. act (generated P) (mode_of m P) (calls m P c.depth) (Branch skip) next (tie c.local_types c.locals) (held BoolTy x ∷ tie decides.below one.below) k w) is
 
   pub branched : (after : Frame) → ((v : Value) → IsHeld (kind_of m P) P.types nodes r BoolTy v → v ≡ BoolV true)
-      → IsAt frame (frame.place + 1) frame.locals.items last after → GoesOn m P nodes frame c after
+      → IsAt frame (frame.place + 1) frame.locals.items last after → FrameGoesOn m P nodes frame c after
   branched after is at =
       let here : frame.place + 1 ≡ frame.place + 1 + 0 = omega arith in
       goes_on m P nodes nodes frame after (Branch skip) c b 0 frame.locals.items last c.local_types decides.below c.locals one.below
       (subst (λ p. IsAt frame p frame.locals.items last after) here at) decides.goes b.top.is.locals one.rest (same true (is one.x one.stands))
 
   pub skipped : (after : Frame) → ((v : Value) → IsHeld (kind_of m P) P.types nodes r BoolTy v → v ≡ BoolV false)
-      → IsAt frame (frame.place + 1 + skip) frame.locals.items last after → GoesOn m P nodes frame c after
+      → IsAt frame (frame.place + 1 + skip) frame.locals.items last after → FrameGoesOn m P nodes frame c after
   skipped after is at =
       goes_on m P nodes nodes frame after (Branch skip) c b skip frame.locals.items last c.local_types decides.below c.locals one.below
       at decides.skips b.top.is.locals one.rest (same false (is one.x one.stands))

@@ -19,7 +19,7 @@ use Rattle.mode_vm.specs.declared.operand.Operand.{Operand}
 use Rattle.mode_vm.specs.declared.operand.Operand.TheVariants.{Unit as UnitIn, Bool as BoolIn, Int as IntIn, At}
 use Rattle.mode_vm.specs.Meanings.{CauseOf, StateOf, mode_of}
 use Rattle.mode_vm.specs.Machines.{ValueFrame, runs_on, IsTop, Before}
-use Rattle.mode_vm.specs.Outcomes.{GoesOn}
+use Rattle.mode_vm.specs.Outcomes.{FrameGoesOn}
 use Rattle.mode_vm.specs.StateParts.{IsAt}
 use Rattle.mode_vm.specs.declared.frame.Frame.{Frame}
 
@@ -123,7 +123,7 @@ module _ (m : Marking) (P : Program) where
       → AllHeld (kind_of m P) P.types new (reverse works_on) os us
       → ((next : Next (CauseOf m) (StateOf m)) (k : ℕ) (w : StateOf m)
       → act (generated P) (mode_of m P) (calls c.depth) i next (tie c.local_types c.locals) (tie c.operand_types c.operands) k w ≡ next skip (tie ls vs) (tie os us) k w)
-      → GoesOn m P new frame c after
+      → FrameGoesOn m P new frame c after
   goes_on nodes new frame after i c b skip has works_on ls os vs us at to locals operands same = (
     moved c b.next.rest skip ls os vs us,
     moved_top nodes new frame after i c b skip has works_on ls os vs us at to locals operands,
@@ -164,7 +164,7 @@ module _ (m : Marking) (P : Program) (nodes new : List Node) (keeps : Keeps node
       → ((next : Next (CauseOf m) (StateOf m)) (k : ℕ) (w : StateOf m)
       → act (generated P) (mode_of m P) (calls m P c.depth) i next (tie c.local_types c.locals) (tie c.operand_types c.operands) k w ≡ next 0 (tie c.local_types c.locals)
       (tie (t ∷ os) (AndV v us)) k w)
-      → GoesOn m P new frame c after
+      → FrameGoesOn m P new frame c after
   pushes kept r t v os us at to stands below same =
       let here : frame.place + 1 ≡ frame.place + 1 + 0 = omega arith in
       goes_on m P nodes new frame after i c b 0 frame.locals.items (kept ++ r ∷ []) c.local_types (t ∷ os) c.locals (AndV v us)

@@ -10,7 +10,7 @@ use Rattle.core_terms.specs.CodeShapes.{Shape}
 use Rattle.value_store.specs.Nodes.{Node}
 use Rattle.value_store.specs.Markings.{Marking}
 use Rattle.mode_vm.specs.Machines.{ValueFrame, Before}
-use Rattle.mode_vm.specs.Outcomes.{GoesOn}
+use Rattle.mode_vm.specs.Outcomes.{FrameGoesOn}
 use Rattle.mode_vm.specs.StateParts.{IsAt}
 use Rattle.mode_vm.specs.declared.frame.Frame.{Frame}
 use Rattle.mode_vm.proofs.Frames.{fits_next, goes_on}
@@ -50,7 +50,7 @@ module _ (m : Marking) (P : Program) (nodes : List Node) (frame : Frame) (skip :
       let r = left_behind (code_at (generated P) frame.function.0).code frame.place (suc skip) d in
       omega (arith, r)
 
-  pub jumped : (after : Frame) → IsAt frame (frame.place + 1 + skip) frame.locals.items frame.operands.items after → GoesOn m P nodes frame c after
+  pub jumped : (after : Frame) → IsAt frame (frame.place + 1 + skip) frame.locals.items frame.operands.items after → FrameGoesOn m P nodes frame c after
   jumped after at =
       goes_on m P nodes nodes frame after (Jump skip) c b skip frame.locals.items frame.operands.items c.local_types c.operand_types c.locals c.operands at
       (fits_next m P nodes frame (Jump skip) c b) b.top.is.locals b.top.is.operands (λ next k w. refl)

@@ -11,7 +11,7 @@ use Rattle.core_terms.specs.Values.{Value, AuthWithin, IsIdeal}
 use Rattle.core_terms.specs.declared.program.Program.{Program as Coded}
 use Rattle.core_terms.proofs.CodePrograms.{every_format}
 use Rattle.core_terms.proofs.LawProofs.{typing_test_is_exact}
-use Rattle.ideal_meaning.specs.Headline.{call_of}
+use Rattle.ideal_meaning.specs.Headline.{call_values}
 use Rattle.ideal_meaning.proofs.RoleCalls.{parameters_are}
 use Rattle.value_store.specs.Nodes.{AreSound, Node}
 use Rattle.value_store.specs.Standing.{AllStandFor, Kind, ProverNodes, StandsFor}
@@ -49,8 +49,8 @@ module _ (P : Program) (f : ℕ) (takes : TakesState P f) where
     argument_stands = subst (λ t. StandsFor prover P.types nodes argument.0 t a) argument_is call.argument_stands
 
     -- stands for what the function takes
-    pub both_stand : AllStandFor prover P.types nodes (state.0 ∷ argument.0 ∷ []) (function_at P f).parameters (call_of s a)
-    both_stand = subst (λ ts. AllStandFor prover P.types nodes (state.0 ∷ argument.0 ∷ []) ts (call_of s a)) (sym parameters) (call.state_stands, (argument_stands, tt))
+    pub both_stand : AllStandFor prover P.types nodes (state.0 ∷ argument.0 ∷ []) (function_at P f).parameters (call_values s a)
+    both_stand = subst (λ ts. AllStandFor prover P.types nodes (state.0 ∷ argument.0 ∷ []) ts (call_values s a)) (sym parameters) (call.state_stands, (argument_stands, tt))
 
     -- is ideal
     pub state_ideal : IsIdeal P.types P.state s

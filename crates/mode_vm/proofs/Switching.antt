@@ -20,7 +20,7 @@ use Rattle.mode_vm.specs.declared.operand.Operand.{Operand}
 use Rattle.mode_vm.specs.declared.operand.Operand.TheVariants.{At}
 use Rattle.mode_vm.specs.Meanings.{mode_of}
 use Rattle.mode_vm.specs.Machines.{ValueFrame, Before}
-use Rattle.mode_vm.specs.Outcomes.{GoesOn}
+use Rattle.mode_vm.specs.Outcomes.{FrameGoesOn}
 use Rattle.mode_vm.specs.StateParts.{IsAt}
 use Rattle.mode_vm.specs.declared.frame.Frame.{Frame}
 use Rattle.mode_vm.proofs.Frames.{ToNext, fits_next, goes_on, calls, reverse_push}
@@ -122,7 +122,7 @@ module _ (m : Marking) (P : Program) (nodes : List Node) (frame : Frame) (number
   switch_within = skip_within m P nodes frame (Switch number places) c b apart.skip _ apart.goes
 
   pub switched : (after : Frame) (fields : List Ref) → numbers_of fields ≡ apart.fields → IsAt frame (frame.place + 1 + apart.skip) (frame.locals.items ++ all_at fields) kept after
-      → GoesOn m P nodes frame c after
+      → FrameGoesOn m P nodes frame c after
   switched after fields same at =
       let ops = λ (os : List Ty) (us : Values). tie os us in
       goes_on m P nodes nodes frame after (Switch number places) c b apart.skip (frame.locals.items ++ all_at fields) kept (c.local_types ++ apart.field_types) apart.below_types

@@ -42,13 +42,13 @@ module _ (m : Marking) (P : Program) (z : Ty) (nodes : List Node) where
 
 module _ (m : Marking) (P : Program) (nodes : List Node) where
   -- the frame will end as it would have before, over the same frames that wait
-  abbrev pub GoesOn : Frame → ValueFrame → Frame → Type 0
-  GoesOn old c new =
+  abbrev pub FrameGoesOn : Frame → ValueFrame → Frame → Type 0
+  FrameGoesOn old c new =
       (after : ValueFrame) × IsTop m P nodes new after × IsSameCall c after × ((k : ℕ) (w : StateOf m) → runs_on m P c k w ≡ runs_on m P after k w) × IsOver old new
 
   -- After an instruction that asks nothing of the mode the frame will end as it would have before, or it traps.
   abbrev pub Acts : {E : Type 0} → Frame → ValueFrame → Frame → Result (Option Trap) E → Type 0
-  Acts old c new (Ok None) = GoesOn old c new
+  Acts old c new (Ok None) = FrameGoesOn old c new
   Acts old c new (Ok (Some trap)) = (k : ℕ) (w : StateOf m) → runs_on m P c k w ≡ Ran (Ends (Traps (trap_told trap)) k w)
   Acts old c new (Err e) = Unit {0}
 

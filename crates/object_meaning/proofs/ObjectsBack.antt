@@ -18,7 +18,7 @@ use Rattle.core_terms.specs.declared.term.TextCompare.{TextCompare}
 use Rattle.core_terms.specs.declared.term.TextCompare.TheVariants.{Eq as TEq, Lt as TLt}
 use Rattle.object_meaning.specs.Objects.{ListedConstructor, ListedType, ListedUnit, ListedBool, ListedInt, ListedText, ListedPair, ListedNamed, ListedAuth, Instruction, PushUnit, PushBool, PushInt, PushText, Load, Bind, Unbind, Pair, Fst, Snd, Make, Switch, Branch, Jump, Call, Return, Auth, Unauth, ArithOp, CompareOp, TextCompareOp, Cat, Len, Not, ListedFunction, Object, most_listed_types}
 use Rattle.object_meaning.specs.ObjectBytes.{object_magic, bytes_of_all, word, words, name_bytes, constructor_bytes, type_bytes, arith_number, compare_number, text_compare_number, bool_number, instruction_bytes, kind_number, function_bytes, object_bytes}
-use Rattle.object_meaning.specs.Readers.{Takes, CutShort, BadAt, taken_as, field, u8, u16, u32, any, within, text_behind, times_from, times, times_behind}
+use Rattle.object_meaning.specs.Readers.{Took, CutShort, BadAt, taken_as, field, u8, u16, u32, any, within, text_behind, times_from, times, times_behind}
 use Rattle.object_meaning.specs.ReadObjects.{role_names, is_int, is_upper_name, is_lower_name, is_among, name_read, names_of, all_names, named_count, is_listed, constructor_read, type_readers, is_tag, nothing_read, new_type, type_read, constructors_of, is_named, ariths, compares, text_compares, text_read, int_read, operand_readers, instruction_read, role_name_read, kinds, type_number, behind_length, behind_result, behind_parameters, behind_count, behind_name, behind_kind, function_read, magic_read, behind_function_count, behind_state, behind_types, behind_type_count, behind_magic, object_read}
 use Rattle.object_meaning.specs.WellFormedObjects.{AllBelow, IsNewName, IsConstructor, AreConstructors, IsType, AreTypes, AllAhead, IsInstruction, AreInstructions, HasRoleName, IsListedFunction, AreFunctions, IsObject}
 use Rattle.object_meaning.proofs.ReadersBack.{Reads, reads_nothing, reads_then, reads_as, reads_field, reads_u8, reads_u16, reads_u32, reads_text, EachReads, reads_times, EachReadsBehind, reads_behind}
@@ -121,8 +121,8 @@ reads_type count before t h new m few = λ rest place.
     (reads_u8 (is_tag before) (tag_of t) (tag_passes count before t h))
     (λ rest behind.
     ap (new_type before place) (reads_parts count before t h m few rest behind)
-    ∙ ap (λ b. if b then BadAt place else Takes t rest (behind + length (parts_of t))) new) rest place
-    ∙ ap (λ l. Takes t rest (place + length l)) (sym (bytes_are t))
+    ∙ ap (λ b. if b then BadAt place else Took t rest (behind + length (parts_of t))) new) rest place
+    ∙ ap (λ l. Took t rest (place + length l)) (sym (bytes_are t))
 
 each_type : (count : ℕ) (before ts : List ListedType) → AreTypes count before ts → length before + length ts ≤ 100000 → count ≤ 100000 → EachReadsBehind (type_read count) type_bytes before ts
 each_type count before [] h m few = tt
@@ -143,7 +143,7 @@ reads_int z h = λ rest place.
     let n = from_be_bytes w64 (to_be_bytes w64 (cast_unsigned w64 z)) in
     reads_as (λ n. PushInt (cast_signed w64 n)) (field 8 (from_be_bytes w64) is_int) (to_be_bytes w64 (cast_unsigned w64 z)) n
     (reads_field 8 (from_be_bytes w64) is_int (to_be_bytes w64 (cast_unsigned w64 z)) n refl refl (ap int_fits (int_back z h) ∙ h)) rest place
-    ∙ ap (λ z'. Takes (PushInt z') rest (place + 8)) (int_back z h)
+    ∙ ap (λ z'. Took (PushInt z') rest (place + 8)) (int_back z h)
 
 reads_push_text : (bytes : List ℕ) → IsUtf8 bytes → length bytes ≤ 65532 → Reads text_read (word (length bytes) ++ bytes) (PushText bytes)
 reads_push_text bytes u h = λ rest place.
@@ -388,7 +388,7 @@ module _ (types : List ListedType) (functions : ℕ) (few : length types ≤ 100
 -- WHOLE OBJECTS
 reads_magic : Reads magic_read object_magic 0
 reads_magic rest place =
-    ap (λ b. if b then CutShort else Takes 0 rest (place + 4)) (le-ltb (length (object_magic ++ rest)) 4 (omega (arith, length-append object_magic rest)))
+    ap (λ b. if b then CutShort else Took 0 rest (place + 4)) (le-ltb (length (object_magic ++ rest)) 4 (omega (arith, length-append object_magic rest)))
 
 abbrev functions_bytes : Object → List ℕ
 functions_bytes o = bytes_of_all function_bytes o.functions
@@ -421,7 +421,7 @@ reads_object o h =
     (reads_behind (function_read o.types fs) function_bytes [] fs o.functions refl (each_function o.types fs h.few_types h.few_functions [] o.functions h.functions)))))))
 
 -- the bytes of a well-formed object are read as it, with nothing behind it
-pub object_back : (o : Object) → IsObject o → object_read (object_bytes o) 0 ≡ Takes o [] (length (object_bytes o))
+pub object_back : (o : Object) → IsObject o → object_read (object_bytes o) 0 ≡ Took o [] (length (object_bytes o))
 object_back o h =
     let n : 0 + length (object_bytes o) ≡ length (object_bytes o) = omega arith in
-    ap (λ l. object_read l 0) (sym (append-nil (object_bytes o))) ∙ reads_object o h [] 0 ∙ ap (Takes o []) n
+    ap (λ l. object_read l 0) (sym (append-nil (object_bytes o))) ∙ reads_object o h [] 0 ∙ ap (Took o []) n

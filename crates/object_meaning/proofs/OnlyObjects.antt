@@ -14,18 +14,18 @@ use Rattle.core_terms.specs.declared.term.TextCompare.TheVariants.{Eq as TEq}
 use Rattle.core_terms.proofs.ReadOnly.{byte_at, bytes_take, bytes_drop, be_low_8}
 use Rattle.object_meaning.specs.Objects.{ListedConstructor, ListedType, ListedUnit, ListedBool, ListedInt, ListedText, ListedPair, ListedNamed, ListedAuth, Instruction, PushUnit, PushBool, PushInt, PushText, Load, Bind, Unbind, Pair, Fst, Snd, Make, Switch, Branch, Jump, Call, Return, Auth, Unauth, ArithOp, CompareOp, TextCompareOp, Cat, Len, Not, ListedFunction, most_listed_types}
 use Rattle.object_meaning.specs.ObjectBytes.{object_magic, bytes_of_all, word, words, name_bytes, constructor_bytes, type_bytes, arith_number, compare_number, text_compare_number, bool_number, instruction_bytes, kind_number, function_bytes, object_bytes}
-use Rattle.object_meaning.specs.Readers.{Takes, CutShort, BadAt, Reader, then_take, taken_as, field, byte_in, u8, u16, u32, any, within, text_behind, times_from, times, times_behind}
+use Rattle.object_meaning.specs.Readers.{Took, CutShort, BadAt, Reader, then_take, taken_as, field, byte_in, u8, u16, u32, any, within, text_behind, times_from, times, times_behind}
 use Rattle.object_meaning.specs.ReadObjects.{is_lower_name, is_upper_name, is_among, name_read, names_of, all_names, is_listed, constructor_read, type_readers, is_tag, nothing_read, new_type, type_read, role_names, role_name_read, constructors_of, is_named, ariths, compares, text_compares, is_int, text_read, operand_readers, instruction_read, kinds, type_number, behind_length, behind_result, behind_parameters, behind_count, behind_name, function_read, magic_read, behind_function_count, behind_state, behind_types, behind_type_count, behind_magic, object_read}
 use Rattle.object_meaning.specs.ObjectLaws.{BytesAreTheObjects}
 use Rattle.object_meaning.proofs.ReadThere.{taken_then, taken_is, taken_rest, Anything, within_most}
 
 -- the bytes that a reader takes are these, and something is so of what it takes
 abbrev pub Spells : {A : Type 0} → (A → List ℕ) → (A → Type 0) → Reader A → Type 0
-Spells {A} spell P read = (bytes : List ℕ) → AreBytes bytes → (place : ℕ) (a : A) (rest : List ℕ) (p : ℕ) → read bytes place ≡ Takes a rest p → (bytes ≡ spell a ++ rest) × P a × AreBytes rest
+Spells {A} spell P read = (bytes : List ℕ) → AreBytes bytes → (place : ℕ) (a : A) (rest : List ℕ) (p : ℕ) → read bytes place ≡ Took a rest p → (bytes ≡ spell a ++ rest) × P a × AreBytes rest
 
 -- With what was taken before, they are those of what is made of all.
 abbrev Ends : {A : Type 0} → (List ℕ → List ℕ) → (A → List ℕ) → Reader A → Type 0
-Ends {A} before spell read = (bytes : List ℕ) → AreBytes bytes → (place : ℕ) (a : A) (rest : List ℕ) (p : ℕ) → read bytes place ≡ Takes a rest p → (before bytes ≡ spell a ++ rest) × AreBytes rest
+Ends {A} before spell read = (bytes : List ℕ) → AreBytes bytes → (place : ℕ) (a : A) (rest : List ℕ) (p : ℕ) → read bytes place ≡ Took a rest p → (before bytes ≡ spell a ++ rest) × AreBytes rest
 
 spells_other : {A : Type 0} (spell other : A → List ℕ) (P Q : A → Type 0) (read : Reader A) → ((a : A) → P a → (spell a ≡ other a) × Q a) → Spells spell P read → Spells other Q read
 spells_other spell other P Q read g f bytes h place a rest p e =
@@ -44,7 +44,7 @@ ends_then before spell P all read go f g bytes h place b rest p e =
     let second = g a first.1 r first.2 q b rest p k in
     (ap before first.0 ∙ second.0, second.1))
 
-ends_one : {A : Type 0} (before : List ℕ → List ℕ) (spell : A → List ℕ) (a : A) → ((rest : List ℕ) → before rest ≡ spell a ++ rest) → Ends before spell (λ bytes place. Takes a bytes place)
+ends_one : {A : Type 0} (before : List ℕ → List ℕ) (spell : A → List ℕ) (a : A) → ((rest : List ℕ) → before rest ≡ spell a ++ rest) → Ends before spell (λ bytes place. Took a bytes place)
 ends_one before spell a g bytes h place b rest p e =
     let left : bytes ≡ rest = taken_rest a b bytes rest place p e in
     subst (λ b. (before bytes ≡ spell b ++ rest) × AreBytes rest) (taken_is a b bytes rest place p e) (ap before left ∙ g rest, subst AreBytes left h)
@@ -52,7 +52,7 @@ ends_one before spell a g bytes h place b rest p e =
 ends_as : {A B : Type 0} (before : List ℕ → List ℕ) (spell : A → List ℕ) (P : A → Type 0) (all : B → List ℕ) (make : A → B) (read : Reader A) → Spells spell P read
     → ((a : A) → P a → (rest : List ℕ) → before (spell a ++ rest) ≡ all (make a) ++ rest) → Ends before all (λ bytes place. taken_as make (read bytes place))
 ends_as before spell P all make read f g =
-    ends_then before spell P all read (λ a rest place. Takes (make a) rest place) f (λ a k. ends_one (λ l. before (spell a ++ l)) all (make a) (g a k))
+    ends_then before spell P all read (λ a rest place. Took (make a) rest place) f (λ a k. ends_one (λ l. before (spell a ++ l)) all (make a) (g a k))
 
 ends_last : {A : Type 0} (before : List ℕ → List ℕ) (spell : A → List ℕ) (P : A → Type 0) (all : A → List ℕ) (read : Reader A) → Spells spell P read
     → ((a : A) → P a → (rest : List ℕ) → before (spell a ++ rest) ≡ all a ++ rest) → Ends before all read
@@ -63,7 +63,7 @@ spells_field : (n : ℕ) (number : List ℕ → ℕ) (test : ℕ → Bool) (spel
 spells_field n number test spell g bytes h place x rest p e = by (nat_lt (length bytes) n) refl (test (number (take n bytes))) refl e
   where
     by : (b : Bool) → nat_lt (length bytes) n ≡ b → (c : Bool) → test (number (take n bytes)) ≡ c
-        → (if b then CutShort else (if c then Takes (number (take n bytes)) (drop n bytes) (place + n) else BadAt place)) ≡ Takes x rest p → (bytes ≡ spell x ++ rest) × (test x ≡ true) × AreBytes rest
+        → (if b then CutShort else (if c then Took (number (take n bytes)) (drop n bytes) (place + n) else BadAt place)) ≡ Took x rest p → (bytes ≡ spell x ++ rest) × (test x ≡ true) × AreBytes rest
     by true l c t e = absurd (cc (e))
     by false l true t e =
         let long : n ≤ length bytes = ltb-false (length bytes) n l in
@@ -94,7 +94,7 @@ pub spells_text : (offset : ℕ) (test : List ℕ → Bool) (n : ℕ) → Spells
 spells_text offset test n bytes h place x rest p e = by (nat_lt (length bytes) n) refl (test (take n bytes)) e
   where
     by : (b : Bool) → nat_lt (length bytes) n ≡ b → (c : Bool)
-        → (if b then CutShort else (if c then Takes (take n bytes) (drop n bytes) (place + n) else BadAt offset)) ≡ Takes x rest p → (bytes ≡ x ++ rest) × (length x ≡ n) × AreBytes rest
+        → (if b then CutShort else (if c then Took (take n bytes) (drop n bytes) (place + n) else BadAt offset)) ≡ Took x rest p → (bytes ≡ x ++ rest) × (length x ≡ n) × AreBytes rest
     by true l c e = absurd (cc (e))
     by false l true e =
         let left : drop n bytes ≡ rest = taken_rest (take n bytes) x (drop n bytes) rest (place + n) p e in
@@ -109,7 +109,7 @@ spells_times spell one f i zero bytes h place items rest p e =
     subst (λ items. (bytes ≡ bytes_of_all spell items ++ rest) × (length items ≡ 0) × AreBytes rest) (taken_is [] items bytes rest place p e) (left, refl, subst AreBytes left h)
 spells_times spell one f i (suc n) bytes h place items rest p e =
     taken_then ((bytes ≡ bytes_of_all spell items ++ rest) × (length items ≡ suc n) × AreBytes rest) (one i bytes place) (λ a bytes place. taken_as (λ more. a ∷ more) (times_from (suc i) n one bytes place)) items rest p e (λ a r q t k.
-    taken_then ((bytes ≡ bytes_of_all spell items ++ rest) × (length items ≡ suc n) × AreBytes rest) (times_from (suc i) n one r q) (λ more rest place. Takes (a ∷ more) rest place) items rest p k (λ more s u t' k'.
+    taken_then ((bytes ≡ bytes_of_all spell items ++ rest) × (length items ≡ suc n) × AreBytes rest) (times_from (suc i) n one r q) (λ more rest place. Took (a ∷ more) rest place) items rest p k (λ more s u t' k'.
     let first = f i bytes h place a r q t in
     let second = spells_times spell one f (suc i) n r first.2 q more s u t' in
     let left : s ≡ rest = taken_rest (a ∷ more) items s rest u p k' in
@@ -122,7 +122,7 @@ all_bytes_more spell (b ∷ items) a = ap (λ l. spell b ++ l) (all_bytes_more s
 
 -- each read by those before it
 behind_ends : {A : Type 0} (spell : A → List ℕ) (one : List A → Reader A) → ((before : List A) → Spells spell Anything (one before)) → (before : List A) (n : ℕ)
-    → (bytes : List ℕ) → AreBytes bytes → (place : ℕ) (items : List A) (rest : List ℕ) (p : ℕ) → times_behind before n one bytes place ≡ Takes items rest p
+    → (bytes : List ℕ) → AreBytes bytes → (place : ℕ) (items : List A) (rest : List ℕ) (p : ℕ) → times_behind before n one bytes place ≡ Took items rest p
     → (bytes_of_all spell before ++ bytes ≡ bytes_of_all spell items ++ rest) × (length items ≡ length before + n) × AreBytes rest
 behind_ends spell one f before zero bytes h place items rest p e =
     let left : bytes ≡ rest = taken_rest before items bytes rest place p e in
@@ -174,9 +174,9 @@ spells_constructor count before others =
 
 ends_new : (listed : List ListedType) (before : List ℕ → List ℕ) (offset : ℕ) (read : Reader ListedType) → Ends before type_bytes read → Ends before type_bytes (λ bytes place. new_type listed offset (read bytes place))
 ends_new listed before offset read f bytes h place ty rest p e =
-    taken_then ((before bytes ≡ type_bytes ty ++ rest) × AreBytes rest) (read bytes place) (λ ty bytes place. if is_listed ty listed then BadAt offset else Takes ty bytes place) ty rest p e (λ a r q t k. by a r q t (is_listed a listed) k)
+    taken_then ((before bytes ≡ type_bytes ty ++ rest) × AreBytes rest) (read bytes place) (λ ty bytes place. if is_listed ty listed then BadAt offset else Took ty bytes place) ty rest p e (λ a r q t k. by a r q t (is_listed a listed) k)
   where
-    by : (a : ListedType) (r : List ℕ) (q : ℕ) → read bytes place ≡ Takes a r q → (b : Bool) → (if b then BadAt offset else Takes a r q) ≡ Takes ty rest p → (before bytes ≡ type_bytes ty ++ rest) × AreBytes rest
+    by : (a : ListedType) (r : List ℕ) (q : ℕ) → read bytes place ≡ Took a r q → (b : Bool) → (if b then BadAt offset else Took a r q) ≡ Took ty rest p → (before bytes ≡ type_bytes ty ++ rest) × AreBytes rest
     by a r q t true k = absurd (cc (k))
     by a r q t false k = f bytes h place ty rest p (t ∙ k)
 
@@ -276,7 +276,7 @@ module _ (types : List ListedType) (functions : ℕ) where
       → Ends (λ l. code ∷ l) instruction_bytes (λ bytes place. taken_as make (u32 test bytes place))
   four_operand code test make g = ends_as (λ l. code ∷ l) word Anything instruction_bytes make (u32 test) (spells_word test) (λ n h rest. g n rest)
 
-  no_operand : (code : ℕ) (x : Instruction) → ((rest : List ℕ) → code ∷ rest ≡ instruction_bytes x ++ rest) → Ends (λ l. code ∷ l) instruction_bytes (λ bytes place. Takes x bytes place)
+  no_operand : (code : ℕ) (x : Instruction) → ((rest : List ℕ) → code ∷ rest ≡ instruction_bytes x ++ rest) → Ends (λ l. code ∷ l) instruction_bytes (λ bytes place. Took x bytes place)
   no_operand code x g = ends_one (λ l. code ∷ l) instruction_bytes x g
 
   operands_end : (i n : ℕ) → AllEnd (λ n. n) instruction_bytes (operand_readers types functions i n)
@@ -411,7 +411,7 @@ module _ (types : List ListedType) (functions : ℕ) where
 pub spells_magic : Spells (λ n. object_magic) Anything magic_read
 spells_magic bytes h place x rest p e = by (nat_lt (length bytes) 4) (bytes_eq (take 4 bytes) object_magic) refl e
   where
-    by : (b c : Bool) → bytes_eq (take 4 bytes) object_magic ≡ c → (if b then CutShort else (if c then Takes 0 (drop 4 bytes) (place + 4) else BadAt place)) ≡ Takes x rest p
+    by : (b c : Bool) → bytes_eq (take 4 bytes) object_magic ≡ c → (if b then CutShort else (if c then Took 0 (drop 4 bytes) (place + 4) else BadAt place)) ≡ Took x rest p
         → (bytes ≡ object_magic ++ rest) × Unit {0} × AreBytes rest
     by true c s e = absurd (cc (e))
     by false true s e =

@@ -13,7 +13,7 @@ use Rattle.core_terms.specs.declared.term.TextCompare.TheVariants.{Eq as TEq}
 use Rattle.std.specs.Int.{w16, w32, w64, from_be_bytes, cast_signed}
 use Rattle.core_terms.specs.Bodies.{Body}
 use Rattle.object_meaning.specs.Objects.{ListedType, Instruction, PushUnit, PushBool, PushInt, PushText, Load, Bind, Unbind, Pair, Fst, Snd, Make, Switch, Branch, Jump, Call, Return, Auth, Unauth, ArithOp, CompareOp, TextCompareOp, Cat, Len, Not, ListedFunction, Object, most_listed_types}
-use Rattle.object_meaning.specs.Readers.{Taken, Takes, CutShort, BadAt, Reader, then_take, taken_as, field, u8, u16, u32, any, within, text_behind, times_from, times, times_behind}
+use Rattle.object_meaning.specs.Readers.{Taken, Took, CutShort, BadAt, Reader, then_take, taken_as, field, u8, u16, u32, any, within, text_behind, times_from, times, times_behind}
 use Rattle.object_meaning.specs.ReadObjects.{constructors_of, is_named, ariths, compares, text_compares, kinds, role_name_read, type_number, type_read, magic_read, nothing_read, text_read, int_read, is_int, operand_readers, instruction_read, behind_name, behind_count, behind_parameters, behind_result, behind_length, function_read, behind_function_count, behind_state, behind_types, behind_type_count, behind_magic, object_read}
 use Rattle.object_meaning.specs.ObjectBodies.{instruction_of, code_from, function_in, trees_of, body_in, program_in}
 use Rattle.core_terms.specs.Kinds.{Spot, kind_fault, kinds_test}
@@ -23,35 +23,35 @@ use Rattle.object_meaning.specs.ObjectLaws.{ObjectsAreAccepted}
 use Rattle.core_terms.proofs.KindsSound.{kinds_sound}
 
 -- What was taken: a first part, and what goes on behind it.
-pub taken_then : {A B : Type 0} (Q : Type 0) (t : Taken A) (go : A → Reader B) (b : B) (rest : List ℕ) (p : ℕ) → then_take t go ≡ Takes b rest p
-    → ((a : A) (r : List ℕ) (q : ℕ) → t ≡ Takes a r q → go a r q ≡ Takes b rest p → Q) → Q
-taken_then Q (Takes a r q) go b rest p e f = f a r q refl e
+pub taken_then : {A B : Type 0} (Q : Type 0) (t : Taken A) (go : A → Reader B) (b : B) (rest : List ℕ) (p : ℕ) → then_take t go ≡ Took b rest p
+    → ((a : A) (r : List ℕ) (q : ℕ) → t ≡ Took a r q → go a r q ≡ Took b rest p → Q) → Q
+taken_then Q (Took a r q) go b rest p e f = f a r q refl e
 taken_then Q CutShort go b rest p e f = absurd (cc)
 taken_then Q (BadAt o) go b rest p e f = absurd (cc)
 
-pub taken_is : {A : Type 0} (a b : A) (r s : List ℕ) (p q : ℕ) → Takes a r p ≡ Takes b s q → a ≡ b
+pub taken_is : {A : Type 0} (a b : A) (r s : List ℕ) (p q : ℕ) → Took a r p ≡ Took b s q → a ≡ b
 taken_is a b r s p q e = cc
 
-pub taken_rest : {A : Type 0} (a b : A) (r s : List ℕ) (p q : ℕ) → Takes a r p ≡ Takes b s q → r ≡ s
+pub taken_rest : {A : Type 0} (a b : A) (r s : List ℕ) (p q : ℕ) → Took a r p ≡ Took b s q → r ≡ s
 taken_rest a b r s p q e = cc
 
-taken_by : {A B : Type 0} (Q : B → Type 0) (h : A → B) (t : Taken A) (b : B) (rest : List ℕ) (p : ℕ) → taken_as h t ≡ Takes b rest p → ((a : A) (r : List ℕ) (q : ℕ) → t ≡ Takes a r q → Q (h a)) → Q b
-taken_by Q h t b rest p e f = taken_then (Q b) t (λ a rest place. Takes (h a) rest place) b rest p e (λ a r q t g. subst Q (taken_is (h a) b r rest q p g) (f a r q t))
+taken_by : {A B : Type 0} (Q : B → Type 0) (h : A → B) (t : Taken A) (b : B) (rest : List ℕ) (p : ℕ) → taken_as h t ≡ Took b rest p → ((a : A) (r : List ℕ) (q : ℕ) → t ≡ Took a r q → Q (h a)) → Q b
+taken_by Q h t b rest p e f = taken_then (Q b) t (λ a rest place. Took (h a) rest place) b rest p e (λ a r q t g. subst Q (taken_is (h a) b r rest q p g) (f a r q t))
 
-field_passes : (n : ℕ) (number : List ℕ → ℕ) (test : ℕ → Bool) (bytes : List ℕ) (place x : ℕ) (rest : List ℕ) (p : ℕ) → field n number test bytes place ≡ Takes x rest p → test x ≡ true
+field_passes : (n : ℕ) (number : List ℕ → ℕ) (test : ℕ → Bool) (bytes : List ℕ) (place x : ℕ) (rest : List ℕ) (p : ℕ) → field n number test bytes place ≡ Took x rest p → test x ≡ true
 field_passes n number test bytes place x rest p e = by (nat_lt (length bytes) n) (test (number (take n bytes))) refl e
   where
     by : (b c : Bool) → test (number (take n bytes)) ≡ c
-        → (if b then CutShort else (if c then Takes (number (take n bytes)) (drop n bytes) (place + n) else BadAt place)) ≡ Takes x rest p → test x ≡ true
+        → (if b then CutShort else (if c then Took (number (take n bytes)) (drop n bytes) (place + n) else BadAt place)) ≡ Took x rest p → test x ≡ true
     by true c t e = absurd (cc (e))
     by false true t e = subst (λ y. test y ≡ true) (taken_is (number (take n bytes)) x (drop n bytes) rest (place + n) p e) t
     by false false t e = absurd (cc (e))
 
-pub text_passes : (offset n : ℕ) (test : List ℕ → Bool) (bytes : List ℕ) (place : ℕ) (x rest : List ℕ) (p : ℕ) → text_behind offset test n bytes place ≡ Takes x rest p → (test x ≡ true) × (length x ≡ n)
+pub text_passes : (offset n : ℕ) (test : List ℕ → Bool) (bytes : List ℕ) (place : ℕ) (x rest : List ℕ) (p : ℕ) → text_behind offset test n bytes place ≡ Took x rest p → (test x ≡ true) × (length x ≡ n)
 text_passes offset n test bytes place x rest p e = by (nat_lt (length bytes) n) refl (test (take n bytes)) refl e
   where
     by : (b : Bool) → nat_lt (length bytes) n ≡ b → (c : Bool) → test (take n bytes) ≡ c
-        → (if b then CutShort else (if c then Takes (take n bytes) (drop n bytes) (place + n) else BadAt offset)) ≡ Takes x rest p → (test x ≡ true) × (length x ≡ n)
+        → (if b then CutShort else (if c then Took (take n bytes) (drop n bytes) (place + n) else BadAt offset)) ≡ Took x rest p → (test x ≡ true) × (length x ≡ n)
     by true l c t e = absurd (cc (e))
     by false l true t e =
         let long : n ≤ length bytes = ltb-false (length bytes) n l in
@@ -68,7 +68,7 @@ abbrev pub Anything : {A : Type 0} → A → Type 0
 Anything a = Unit {0}
 
 abbrev Gives : {A : Type 0} → (A → Type 0) → Reader A → Type 0
-Gives {A} Q read = (bytes : List ℕ) (place : ℕ) (a : A) (rest : List ℕ) (p : ℕ) → read bytes place ≡ Takes a rest p → Q a
+Gives {A} Q read = (bytes : List ℕ) (place : ℕ) (a : A) (rest : List ℕ) (p : ℕ) → read bytes place ≡ Took a rest p → Q a
 
 times_give : {A : Type 0} (Q : A → Type 0) (one : ℕ → Reader A) → ((i : ℕ) → Gives Q (one i)) → (i n : ℕ) → Gives (AllOf Q) (times_from i n one)
 times_give Q one g i zero bytes place items rest p e = subst (AllOf Q) (taken_is [] items bytes rest place p e) tt
@@ -94,7 +94,7 @@ gives_taken Q h read f bytes place b rest p e = taken_by Q h (read bytes place) 
 gives_then : {A B : Type 0} (Q : B → Type 0) (read : Reader A) (go : A → Reader B) → ((a : A) → Gives Q (go a)) → Gives Q (λ bytes place. then_take (read bytes place) go)
 gives_then Q read go f bytes place b rest p e = taken_then (Q b) (read bytes place) go b rest p e (λ a r q t h. f a r q b rest p h)
 
-gives_one : {A : Type 0} (Q : A → Type 0) (a : A) → Q a → Gives Q (λ bytes place. Takes a bytes place)
+gives_one : {A : Type 0} (Q : A → Type 0) (a : A) → Q a → Gives Q (λ bytes place. Took a bytes place)
 gives_one Q a f bytes place b rest p e = subst Q (taken_is a b bytes rest place p e) f
 
 abbrev AllGive : {A : Type 0} → (A → Type 0) → List (Reader A) → Type 0
@@ -277,17 +277,17 @@ module _ (o : Object) where
 
 -- what is accepted was read, no role has another shape, and no kind is at fault
 pub judged : (Q : Type 0) (size : ℕ) (t : Taken Object) (o : Object) → read_judged size t ≡ Accepts o
-    → ((rest : List ℕ) (p : ℕ) → t ≡ Takes o rest p → shape_fault (program_in o) ≡ None → kind_fault (body_in o) ≡ None → Q) → Q
+    → ((rest : List ℕ) (p : ℕ) → t ≡ Took o rest p → shape_fault (program_in o) ≡ None → kind_fault (body_in o) ≡ None → Q) → Q
 judged Q size CutShort o e f = absurd (cc (e))
 judged Q size (BadAt offset) o e f = absurd (cc (e))
-judged Q size (Takes a (b ∷ rest) p) o e f = absurd (cc (e))
-judged Q size (Takes a [] p) o e f = by (shape_fault (program_in a)) refl (kind_fault (body_in a)) refl e
+judged Q size (Took a (b ∷ rest) p) o e f = absurd (cc (e))
+judged Q size (Took a [] p) o e f = by (shape_fault (program_in a)) refl (kind_fault (body_in a)) refl e
   where
     same : (k : Option Spot) → kind_fault (body_in a) ≡ k → shape_fault (program_in a) ≡ None → kinds_judged a k ≡ Accepts o → Q
     same (Some at) h s e = absurd (cc (e))
     same None h s e =
         let is : a ≡ o = cc in
-        f [] p (ap (λ o. Takes o [] p) is) (subst (λ o. shape_fault (program_in o) ≡ None) is s) (subst (λ o. kind_fault (body_in o) ≡ None) is h)
+        f [] p (ap (λ o. Took o [] p) is) (subst (λ o. shape_fault (program_in o) ≡ None) is s) (subst (λ o. kind_fault (body_in o) ≡ None) is h)
 
     by : (s : Option ℕ) → shape_fault (program_in a) ≡ s → (k : Option Spot) → kind_fault (body_in a) ≡ k → shapes_judged a s ≡ Accepts o → Q
     by (Some g) r k h e = absurd (cc (e))

@@ -20,7 +20,7 @@ use Rattle.core_terms.specs.declared.format.Format.TheVariants.{First}
 use Rattle.lexemes.specs.Tokens.{is_name_byte, keyword_of}
 use Rattle.object_meaning.specs.Objects.{ListedConstructor, ListedType, ListedUnit, ListedBool, ListedInt, ListedText, ListedPair, ListedNamed, ListedAuth, Instruction, PushUnit, PushBool, PushInt, PushText, Load, Bind, Unbind, Pair, Fst, Snd, Make, Switch, Branch, Jump, Call, Return, Auth, Unauth, ArithOp, CompareOp, TextCompareOp, Cat, Len, Not, ListedFunction, Object, most_listed_types}
 use Rattle.object_meaning.specs.ObjectBytes.{object_magic}
-use Rattle.object_meaning.specs.Readers.{Takes, CutShort, BadAt, Reader, then_take, taken_as, field, byte_in, u8, u16, u32, any, within, text_behind, times_from, times, times_behind}
+use Rattle.object_meaning.specs.Readers.{Took, CutShort, BadAt, Reader, then_take, taken_as, field, byte_in, u8, u16, u32, any, within, text_behind, times_from, times, times_behind}
 use Rattle.object_meaning.specs.ReadObjects.{is_name_from, is_lower_name, is_upper_name, is_among, name_read, names_of, all_names, named_count, is_listed, constructor_read, type_readers, is_tag, nothing_read, new_type, type_read, role_names, role_name_read, constructors_of, is_named, ariths, compares, text_compares, is_int, text_read, operand_readers, instruction_read, kinds, type_number, behind_length, behind_result, behind_parameters, behind_count, behind_name, function_read, magic_read, behind_function_count, behind_state, behind_types, behind_type_count, behind_magic, object_read}
 use Rattle.object_meaning.specs.ObjectBodies.{constructor_names, listed_at, trees_of, named_tables, code_from, code_in, name_declared, declared_in}
 use Rattle.object_meaning.specs.ObjectLaws.{ConstructorsHaveNames, ObjectsAreWithin}
@@ -29,13 +29,13 @@ use Rattle.object_meaning.proofs.ReadThere.{taken_then, taken_is, taken_rest, Al
 -- READERS
 -- what is so of what a reader takes, which leaves no more bytes than there were
 abbrev Keeps : {A : Type 0} → (A → Type 0) → Reader A → Type 0
-Keeps {A} Q read = (bytes : List ℕ) (place : ℕ) (a : A) (rest : List ℕ) (p : ℕ) → read bytes place ≡ Takes a rest p → Q a × (length rest ≤ length bytes)
+Keeps {A} Q read = (bytes : List ℕ) (place : ℕ) (a : A) (rest : List ℕ) (p : ℕ) → read bytes place ≡ Took a rest p → Q a × (length rest ≤ length bytes)
 
 -- what it takes has a size, and takes as many bytes at least
 abbrev Costs : {A : Type 0} → (A → ℕ) → (A → Type 0) → Reader A → Type 0
-Costs {A} size Q read = (bytes : List ℕ) (place : ℕ) (a : A) (rest : List ℕ) (p : ℕ) → read bytes place ≡ Takes a rest p → Q a × (size a + length rest ≤ length bytes)
+Costs {A} size Q read = (bytes : List ℕ) (place : ℕ) (a : A) (rest : List ℕ) (p : ℕ) → read bytes place ≡ Took a rest p → Q a × (size a + length rest ≤ length bytes)
 
-keeps_one : {A : Type 0} (Q : A → Type 0) (a : A) → Q a → Keeps Q (λ bytes place. Takes a bytes place)
+keeps_one : {A : Type 0} (Q : A → Type 0) (a : A) → Q a → Keeps Q (λ bytes place. Took a bytes place)
 keeps_one Q a h bytes place b rest p e =
     (subst Q (taken_is a b bytes rest place p e) h, let same : length bytes ≡ length rest = ap length (taken_rest a b bytes rest place p e) in omega (arith, same))
 
@@ -44,7 +44,7 @@ field_costs : (n : ℕ) (number : List ℕ → ℕ) (test : ℕ → Bool) → Co
 field_costs n number test bytes place x rest p e = by (nat_lt (length bytes) n) refl (test (number (take n bytes))) refl e
   where
     by : (b : Bool) → nat_lt (length bytes) n ≡ b → (c : Bool) → test (number (take n bytes)) ≡ c
-        → (if b then CutShort else (if c then Takes (number (take n bytes)) (drop n bytes) (place + n) else BadAt place)) ≡ Takes x rest p → (test x ≡ true) × (n + length rest ≤ length bytes)
+        → (if b then CutShort else (if c then Took (number (take n bytes)) (drop n bytes) (place + n) else BadAt place)) ≡ Took x rest p → (test x ≡ true) × (n + length rest ≤ length bytes)
     by true l c t e = absurd (cc (e))
     by false l true t e =
         let long : n ≤ length bytes = ltb-false (length bytes) n l in
@@ -68,7 +68,7 @@ keeps_text : (offset : ℕ) (test : List ℕ → Bool) (n : ℕ) → Keeps (λ x
 keeps_text offset test n bytes place x rest p e = by (nat_lt (length bytes) n) (test (take n bytes)) refl e
   where
     by : (b c : Bool) → test (take n bytes) ≡ c
-        → (if b then CutShort else (if c then Takes (take n bytes) (drop n bytes) (place + n) else BadAt offset)) ≡ Takes x rest p → (test x ≡ true) × (length rest ≤ length bytes)
+        → (if b then CutShort else (if c then Took (take n bytes) (drop n bytes) (place + n) else BadAt offset)) ≡ Took x rest p → (test x ≡ true) × (length rest ≤ length bytes)
     by true c t e = absurd (cc (e))
     by false true t e =
         let left : length (drop n bytes) ≡ length rest = ap length (taken_rest (take n bytes) x (drop n bytes) rest (place + n) p e) in
@@ -83,7 +83,7 @@ keeps_then P Q read go f g bytes place b rest p e =
     (second.0, omega (arith, first.1, second.1)))
 
 keeps_as : {A B : Type 0} (P : A → Type 0) (Q : B → Type 0) (h : A → B) (read : Reader A) → Keeps P read → ((a : A) → P a → Q (h a)) → Keeps Q (λ bytes place. taken_as h (read bytes place))
-keeps_as P Q h read f g = keeps_then P Q read (λ a rest place. Takes (h a) rest place) f (λ a k. keeps_one Q (h a) (g a k))
+keeps_as P Q h read f g = keeps_then P Q read (λ a rest place. Took (h a) rest place) f (λ a k. keeps_one Q (h a) (g a k))
 
 costs_then : {A B : Type 0} (P : A → Type 0) (size : B → ℕ) (Q : B → Type 0) (read : Reader A) (go : A → Reader B) → Keeps P read → ((a : A) → P a → Costs size Q (go a))
     → Costs size Q (λ bytes place. then_take (read bytes place) go)
@@ -96,7 +96,7 @@ costs_then P size Q read go f g bytes place b rest p e =
 costs_as : {A B : Type 0} (size : A → ℕ) (larger : B → ℕ) (P : A → Type 0) (Q : B → Type 0) (h : A → B) (read : Reader A) → Costs size P read → ((a : A) → P a → Q (h a) × (larger (h a) ≡ size a))
     → Costs larger Q (λ bytes place. taken_as h (read bytes place))
 costs_as size larger P Q h read f g bytes place b rest p e =
-    taken_then (Q b × (larger b + length rest ≤ length bytes)) (read bytes place) (λ a rest place. Takes (h a) rest place) b rest p e (λ a r q t k.
+    taken_then (Q b × (larger b + length rest ≤ length bytes)) (read bytes place) (λ a rest place. Took (h a) rest place) b rest p e (λ a r q t k.
     let got = f bytes place a r q t in
     let so = g a got.0 in
     let left : length r ≡ length rest = ap length (taken_rest (h a) b r rest q p k) in
@@ -114,7 +114,7 @@ costs_times P one f i zero bytes place items rest p e =
     (tt, let none : 0 ≡ length items = ap length (taken_is [] items bytes rest place p e) in let left : length bytes ≡ length rest = ap length (taken_rest [] items bytes rest place p e) in omega (arith, none, left))
 costs_times P one f i (suc n) bytes place items rest p e =
     taken_then (Anything items × (length items + length rest ≤ length bytes)) (one i bytes place) (λ a bytes place. taken_as (λ more. a ∷ more) (times_from (suc i) n one bytes place)) items rest p e (λ a r q t h.
-    taken_then (Anything items × (length items + length rest ≤ length bytes)) (times_from (suc i) n one r q) (λ more rest place. Takes (a ∷ more) rest place) items rest p h (λ more s u k l.
+    taken_then (Anything items × (length items + length rest ≤ length bytes)) (times_from (suc i) n one r q) (λ more rest place. Took (a ∷ more) rest place) items rest p h (λ more s u k l.
     let first = f i bytes place a r q t in
     let second = costs_times P one f (suc i) n r q more s u k in
     let size : suc (length more) ≡ length items = ap length (taken_is (a ∷ more) items s rest u p l) in
@@ -192,7 +192,7 @@ keeps_constructor count before others =
 keeps_new : (Q : ListedType → Type 0) (before : List ListedType) (offset : ℕ) (read : Reader ListedType) → Keeps Q read → Keeps Q (λ bytes place. new_type before offset (read bytes place))
 keeps_new Q before offset read f = keeps_then Q Q read _ f (λ ty h bytes place t rest p e. by ty h bytes place t rest p (is_listed ty before) e)
   where
-    by : (ty : ListedType) → Q ty → (bytes : List ℕ) (place : ℕ) (t : ListedType) (rest : List ℕ) (p : ℕ) → (b : Bool) → (if b then BadAt offset else Takes ty bytes place) ≡ Takes t rest p → Q t × (length rest ≤ length bytes)
+    by : (ty : ListedType) → Q ty → (bytes : List ℕ) (place : ℕ) (t : ListedType) (rest : List ℕ) (p : ℕ) → (b : Bool) → (if b then BadAt offset else Took ty bytes place) ≡ Took t rest p → Q t × (length rest ≤ length bytes)
     by ty h bytes place t rest p true e = absurd (cc (e))
     by ty h bytes place t rest p false e = keeps_one Q ty h bytes place t rest p e
 
@@ -399,7 +399,7 @@ code_more (g ∷ before) f = let e : all_code (before ++ f ∷ []) ≡ all_code 
 
 module _ (types : List ListedType) (functions : ℕ) where
   functions_cost : (before : List ListedFunction) (n : ℕ) → AllOf FunctionWithin before → (bytes : List ℕ) (place : ℕ) (fs : List ListedFunction) (rest : List ℕ) (p : ℕ)
-      → times_behind before n (function_read types functions) bytes place ≡ Takes fs rest p
+      → times_behind before n (function_read types functions) bytes place ≡ Took fs rest p
       → AllOf FunctionWithin fs × (length fs ≡ length before + n) × (all_code fs + length rest ≤ all_code before + length bytes)
   functions_cost before zero h bytes place fs rest p e =
       let left : length bytes ≡ length rest = ap length (taken_rest before fs bytes rest place p e) in
@@ -421,7 +421,7 @@ object_size o = all_code o.functions
 keeps_magic : Keeps Anything magic_read
 keeps_magic bytes place x rest p e = by (nat_lt (length bytes) 4) (bytes_eq (take 4 bytes) object_magic) e
   where
-    by : (b c : Bool) → (if b then CutShort else (if c then Takes 0 (drop 4 bytes) (place + 4) else BadAt place)) ≡ Takes x rest p → Unit {0} × (length rest ≤ length bytes)
+    by : (b c : Bool) → (if b then CutShort else (if c then Took 0 (drop 4 bytes) (place + 4) else BadAt place)) ≡ Took x rest p → Unit {0} × (length rest ≤ length bytes)
     by true c e = absurd (cc (e))
     by false true e = let left : length (drop 4 bytes) ≡ length rest = ap length (taken_rest 0 x (drop 4 bytes) rest (place + 4) p e) in (tt, omega (arith, left, length-drop 4 bytes))
     by false false e = absurd (cc (e))

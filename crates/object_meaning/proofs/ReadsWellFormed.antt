@@ -12,7 +12,7 @@ use Rattle.core_terms.specs.declared.term.TextCompare.TheVariants.{Eq as TEq}
 use Rattle.core_terms.proofs.ReadOnly.{byte_at, bytes_take, be_low_4}
 use Rattle.object_meaning.specs.Objects.{ListedConstructor, ListedType, ListedUnit, ListedBool, ListedInt, ListedText, ListedPair, ListedNamed, ListedAuth, Instruction, PushUnit, PushBool, PushInt, PushText, Load, Bind, Unbind, Pair, Fst, Snd, Make, Switch, Branch, Jump, Call, Return, Auth, Unauth, ArithOp, CompareOp, TextCompareOp, Cat, Len, Not, ListedFunction, most_listed_types}
 use Rattle.object_meaning.specs.ObjectBytes.{object_magic, word}
-use Rattle.object_meaning.specs.Readers.{Takes, CutShort, BadAt, Reader, then_take, taken_as, field, u8, u16, u32, any, within, text_behind, times_from, times, times_behind}
+use Rattle.object_meaning.specs.Readers.{Took, CutShort, BadAt, Reader, then_take, taken_as, field, u8, u16, u32, any, within, text_behind, times_from, times, times_behind}
 use Rattle.object_meaning.specs.ReadObjects.{is_lower_name, is_upper_name, is_among, name_read, names_of, all_names, named_count, is_listed, constructor_read, type_readers, is_tag, nothing_read, new_type, type_read, role_names, role_name_read, constructors_of, is_named, ariths, compares, text_compares, is_int, text_read, operand_readers, instruction_read, kinds, type_number, behind_length, behind_result, behind_parameters, behind_count, behind_name, function_read, magic_read, behind_function_count, behind_state, behind_types, behind_type_count, behind_magic, object_read}
 use Rattle.object_meaning.specs.WellFormedObjects.{AllBelow, IsNewName, IsConstructor, AreConstructors, IsType, AreTypes, AllAhead, HasRoleName, IsInstruction, AreInstructions, IsListedFunction, AreFunctions, IsObject}
 use Rattle.object_meaning.specs.ObjectLaws.{ReadsAreWellFormed}
@@ -22,7 +22,7 @@ use Rattle.object_meaning.proofs.ReadThere.{taken_then, taken_is, taken_rest, te
 -- READERS
 -- what is so of what a reader takes of bytes, which leaves bytes
 abbrev Proves : {A : Type 0} → (A → Type 0) → Reader A → Type 0
-Proves {A} Q read = (bytes : List ℕ) → AreBytes bytes → (place : ℕ) (a : A) (rest : List ℕ) (p : ℕ) → read bytes place ≡ Takes a rest p → Q a × AreBytes rest
+Proves {A} Q read = (bytes : List ℕ) → AreBytes bytes → (place : ℕ) (a : A) (rest : List ℕ) (p : ℕ) → read bytes place ≡ Took a rest p → Q a × AreBytes rest
 
 proves_spelled : {A : Type 0} (spell : A → List ℕ) (P : A → Type 0) (read : Reader A) → Spells spell P read → Proves P read
 proves_spelled spell P read f bytes h place a rest p e = let k = f bytes h place a rest p e in (k.1, k.2)
@@ -39,7 +39,7 @@ proves_u32 test = proves_spelled word (λ x. test x ≡ true) (u32 test) (spells
 proves_text : (offset : ℕ) (test : List ℕ → Bool) (n : ℕ) → Proves (λ x. (test x ≡ true) × (length x ≡ n)) (text_behind offset test n)
 proves_text offset test n bytes h place x rest p e = (text_passes offset n test bytes place x rest p e, (spells_text offset test n bytes h place x rest p e).2)
 
-proves_one : {A : Type 0} (Q : A → Type 0) (a : A) → Q a → Proves Q (λ bytes place. Takes a bytes place)
+proves_one : {A : Type 0} (Q : A → Type 0) (a : A) → Q a → Proves Q (λ bytes place. Took a bytes place)
 proves_one Q a q bytes h place b rest p e = (subst Q (taken_is a b bytes rest place p e) q, subst AreBytes (taken_rest a b bytes rest place p e) h)
 
 proves_then : {A B : Type 0} (P : A → Type 0) (Q : B → Type 0) (read : Reader A) (go : A → Reader B) → Proves P read → ((a : A) → P a → Proves Q (go a)) → Proves Q (λ bytes place. then_take (read bytes place) go)
@@ -49,7 +49,7 @@ proves_then P Q read go f g bytes h place b rest p e =
     g a first.0 r first.1 q b rest p k)
 
 proves_as : {A B : Type 0} (P : A → Type 0) (Q : B → Type 0) (make : A → B) (read : Reader A) → Proves P read → ((a : A) → P a → Q (make a)) → Proves Q (λ bytes place. taken_as make (read bytes place))
-proves_as P Q make read f g = proves_then P Q read (λ a rest place. Takes (make a) rest place) f (λ a k. proves_one Q (make a) (g a k))
+proves_as P Q make read f g = proves_then P Q read (λ a rest place. Took (make a) rest place) f (λ a k. proves_one Q (make a) (g a k))
 
 -- as many as said
 module _ {A : Type 0} (P : ℕ → A → Type 0) (Q : ℕ → List A → Type 0) (none : (i : ℕ) → Q i []) (more : (i : ℕ) (a : A) (items : List A) → P i a → Q (suc i) items → Q i (a ∷ items))
@@ -114,7 +114,7 @@ proves_length bytes h place x rest p e =
     let low = be_low_4 (take 4 bytes) (byte_at (take 4 bytes) (bytes_take 4 bytes h)) in
     ((leb-true 1 x k.0, subst (λ n. n < 2 ^ 32) (by (nat_lt (length bytes) 4) (nat_le 1 (from_be_bytes w32 (take 4 bytes))) e) low), k.1)
   where
-    by : (b c : Bool) → (if b then CutShort else (if c then Takes (from_be_bytes w32 (take 4 bytes)) (drop 4 bytes) (place + 4) else BadAt place)) ≡ Takes x rest p → from_be_bytes w32 (take 4 bytes) ≡ x
+    by : (b c : Bool) → (if b then CutShort else (if c then Took (from_be_bytes w32 (take 4 bytes)) (drop 4 bytes) (place + 4) else BadAt place)) ≡ Took x rest p → from_be_bytes w32 (take 4 bytes) ≡ x
     by true c e = absurd (cc (e))
     by false true e = taken_is (from_be_bytes w32 (take 4 bytes)) x (drop 4 bytes) rest (place + 4) p e
     by false false e = absurd (cc (e))
@@ -202,7 +202,7 @@ module _ (count : ℕ) (before : List ListedType) where
   proves_new offset read f = proves_then (IsType count before) IsNew read _ f (λ ty h bytes b place t rest p e. by ty h bytes b place t rest p (is_listed ty before) refl e)
     where
       by : (ty : ListedType) → IsType count before ty → (bytes : List ℕ) → AreBytes bytes → (place : ℕ) (t : ListedType) (rest : List ℕ) (p : ℕ) (l : Bool) → is_listed ty before ≡ l
-          → (if l then BadAt offset else Takes ty bytes place) ≡ Takes t rest p → IsNew t × AreBytes rest
+          → (if l then BadAt offset else Took ty bytes place) ≡ Took t rest p → IsNew t × AreBytes rest
       by ty h bytes b place t rest p true l e = absurd (cc (e))
       by ty h bytes b place t rest p false l e = proves_one IsNew ty (h, l) bytes b place t rest p e
 

@@ -4,7 +4,7 @@ use Rattle.core_terms.specs.Terms.{Function, Program}
 use Rattle.core_terms.specs.RoleShapes.{shape_test}
 use Rattle.object_meaning.specs.Objects.{Object}
 use Rattle.object_meaning.specs.ReadObjects.{object_read}
-use Rattle.object_meaning.specs.Readers.{Taken, Takes, CutShort, BadAt}
+use Rattle.object_meaning.specs.Readers.{Taken, Took, CutShort, BadAt}
 use Rattle.object_meaning.specs.ObjectBodies.{body_in, program_in}
 use Rattle.core_terms.specs.Kinds.{Spot, kind_fault}
 
@@ -42,7 +42,7 @@ end_judged o [] = shapes_judged o (shape_fault (program_in o))
 end_judged o (b ∷ rest) = FirstFault (Leftover (length (b ∷ rest)))
 
 abbrev pub read_judged : ℕ → Taken Object → Acceptance
-read_judged size (Takes o rest place) = end_judged o rest
+read_judged size (Took o rest place) = end_judged o rest
 read_judged size CutShort = FirstFault (Cut size)
 read_judged size (BadAt offset) = FirstFault (BadField offset)
 

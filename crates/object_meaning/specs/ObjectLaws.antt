@@ -23,21 +23,21 @@ use Rattle.object_meaning.specs.ObjectBodies.{object_format, constructor_names, 
 use Rattle.object_meaning.specs.ObjectBytes.{object_bytes}
 use Rattle.object_meaning.specs.Objects.{Object, most_object_bytes}
 use Rattle.object_meaning.specs.ReadObjects.{object_read}
-use Rattle.object_meaning.specs.Readers.{Takes}
+use Rattle.object_meaning.specs.Readers.{Took}
 use Rattle.object_meaning.specs.WellFormedObjects.{IsObject}
 use Rattle.object_meaning.specs.WrittenObjects.{codes_in, object_of, written}
 
 -- The bytes of a well-formed object are read as it, with nothing behind it.
 abbrev pub ObjectsAreReadBack : Type 0
-ObjectsAreReadBack = (o : Object) → IsObject o → object_read (object_bytes o) 0 ≡ Takes o [] (length (object_bytes o))
+ObjectsAreReadBack = (o : Object) → IsObject o → object_read (object_bytes o) 0 ≡ Took o [] (length (object_bytes o))
 
 -- And no other bytes are: those that are read as an object, with nothing behind it, are its bytes.
 abbrev pub BytesAreTheObjects : Type 0
-BytesAreTheObjects = (bytes : List ℕ) (place : ℕ) (o : Object) → AreBytes bytes → object_read bytes 0 ≡ Takes o [] place → bytes ≡ object_bytes o
+BytesAreTheObjects = (bytes : List ℕ) (place : ℕ) (o : Object) → AreBytes bytes → object_read bytes 0 ≡ Took o [] place → bytes ≡ object_bytes o
 
 -- What is read of bytes is well-formed, whatever stands behind it.
 abbrev pub ReadsAreWellFormed : Type 0
-ReadsAreWellFormed = (bytes : List ℕ) (place : ℕ) (o : Object) (rest : List ℕ) → AreBytes bytes → object_read bytes 0 ≡ Takes o rest place → IsObject o
+ReadsAreWellFormed = (bytes : List ℕ) (place : ℕ) (o : Object) (rest : List ℕ) → AreBytes bytes → object_read bytes 0 ≡ Took o rest place → IsObject o
 
 -- The code that the program of an object runs is the object as code.
 abbrev pub ObjectsAreBodies : Type 0

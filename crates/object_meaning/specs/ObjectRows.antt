@@ -4,7 +4,7 @@ use Rattle.core_terms.specs.Types.{UnitTy}
 use Rattle.core_terms.specs.Terms.{Query}
 use Rattle.core_terms.specs.Values.{UnitV}
 use Rattle.ideal_meaning.specs.Examples.{toy, bool_program, two_bools_program, nested_program, spin_program}
-use Rattle.ideal_meaning.specs.Headline.{call_of}
+use Rattle.ideal_meaning.specs.Headline.{call_values}
 use Rattle.ideal_meaning.specs.Checked.{verdict, Accepted as Verified}
 use Rattle.ideal_meaning.specs.ExampleProofs.{file}
 use Rattle.ideal_meaning.specs.Ideal.{ideal, Done}
@@ -52,7 +52,7 @@ argument_is_not_opened = refl
 pub no_local_is_loaded : accepting (open_loads 2) ≡ FirstFault (BadKind 0 0)
 no_local_is_loaded = refl
 
-pub open_gives_unit : ideal (program_in open_object) 0 (call_of UnitV UnitV) 1 ≡ Gives UnitV 0 (record { ty = UnitTy; value = UnitV } ∷ [])
+pub open_gives_unit : ideal (program_in open_object) 0 (call_values UnitV UnitV) 1 ≡ Gives UnitV 0 (record { ty = UnitTy; value = UnitV } ∷ [])
 open_gives_unit = refl
 
 -- its verdict on a proof with the empty piece, where the state is the digest of no bytes

@@ -20,7 +20,7 @@ use Rattle.core_terms.specs.declared.format.Format.TheVariants.{First}
 use Rattle.lexemes.specs.Tokens.{is_name_byte, keyword_of}
 use Rattle.object_meaning.specs.Objects.{ListedConstructor, ListedType, ListedUnit, ListedBool, ListedInt, ListedText, ListedPair, ListedNamed, ListedAuth, Instruction, PushUnit, PushBool, PushInt, PushText, Load, Bind, Unbind, Pair, Fst, Snd, Make, Switch, Branch, Jump, Call, Return, Auth, Unauth, ArithOp, CompareOp, TextCompareOp, Cat, Len, Not, ListedFunction, Object, most_listed_types}
 use Rattle.object_meaning.specs.ObjectBytes.{object_magic}
-use Rattle.object_meaning.specs.Readers.{Taken, Takes, CutShort, BadAt, Reader, then_take, taken_as, field, u8, u16, u32, any, within, text_behind, times_from, times, times_behind}
+use Rattle.object_meaning.specs.Readers.{Taken, Took, CutShort, BadAt, Reader, then_take, taken_as, field, u8, u16, u32, any, within, text_behind, times_from, times, times_behind}
 
 -- NAMES
 -- a name of at most 64 bytes that begins with a byte of this kind
@@ -89,10 +89,10 @@ constructor_read count before others bytes place =
 abbrev pub type_readers : (count : ℕ) → List ListedType → List (Reader ListedType)
 type_readers count before =
     let earlier = u32 (λ t. nat_lt t (length before)) in
-    (λ bytes place. Takes ListedUnit bytes place)
-    ∷ (λ bytes place. Takes ListedBool bytes place)
-    ∷ (λ bytes place. Takes ListedInt bytes place)
-    ∷ (λ bytes place. Takes ListedText bytes place)
+    (λ bytes place. Took ListedUnit bytes place)
+    ∷ (λ bytes place. Took ListedBool bytes place)
+    ∷ (λ bytes place. Took ListedInt bytes place)
+    ∷ (λ bytes place. Took ListedText bytes place)
     ∷ (λ bytes place. then_take (earlier bytes place) (λ a bytes place. taken_as (ListedPair a) (earlier bytes place)))
     ∷ (λ bytes place. then_take (u8 (within 1 most_constructors) bytes place) (λ n bytes place.
     taken_as ListedNamed (times_behind [] n (constructor_read count (all_names before)) bytes place)))
@@ -108,7 +108,7 @@ nothing_read bytes place = BadAt place
 
 -- a type that isn't listed yet; else it is at fault at its tag
 abbrev pub new_type : List ListedType → (offset : ℕ) → Taken ListedType → Taken ListedType
-new_type before offset t = then_take t (λ ty bytes place. if is_listed ty before then BadAt offset else Takes ty bytes place)
+new_type before offset t = then_take t (λ ty bytes place. if is_listed ty before then BadAt offset else Took ty bytes place)
 
 abbrev pub type_read : (count : ℕ) → List ListedType → Reader ListedType
 type_read count before bytes place =
@@ -167,30 +167,30 @@ module _ (types : List ListedType) (functions : ℕ) where
       let ty = u32 (λ t. nat_lt t (length types)) in
       let named = u32 (is_named types) in
       let target = u32 (λ t. nat_lt i t && nat_lt t n) in
-      (λ bytes place. Takes PushUnit bytes place)
+      (λ bytes place. Took PushUnit bytes place)
       ∷ (λ bytes place. taken_as (λ b. PushBool (nat_eq b 1)) (u8 (within 0 1) bytes place))
       ∷ int_read
       ∷ text_read
       ∷ (λ bytes place. taken_as Load (u8 any bytes place))
-      ∷ (λ bytes place. Takes Bind bytes place)
+      ∷ (λ bytes place. Took Bind bytes place)
       ∷ (λ bytes place. taken_as Unbind (u8 any bytes place))
-      ∷ (λ bytes place. Takes Pair bytes place)
-      ∷ (λ bytes place. Takes Fst bytes place)
-      ∷ (λ bytes place. Takes Snd bytes place)
+      ∷ (λ bytes place. Took Pair bytes place)
+      ∷ (λ bytes place. Took Fst bytes place)
+      ∷ (λ bytes place. Took Snd bytes place)
       ∷ (λ bytes place. then_take (named bytes place) (λ ty bytes place. taken_as (Make ty) (u8 (λ tag. nat_lt tag (length (constructors_of types ty))) bytes place)))
       ∷ (λ bytes place. then_take (named bytes place) (λ ty bytes place. taken_as (Switch ty) (times (length (constructors_of types ty)) target bytes place)))
       ∷ (λ bytes place. taken_as Branch (target bytes place))
       ∷ (λ bytes place. taken_as Jump (target bytes place))
       ∷ (λ bytes place. taken_as Call (u16 (λ f. nat_lt f functions) bytes place))
-      ∷ (λ bytes place. Takes Return bytes place)
+      ∷ (λ bytes place. Took Return bytes place)
       ∷ (λ bytes place. taken_as Auth (ty bytes place))
       ∷ (λ bytes place. taken_as Unauth (ty bytes place))
       ∷ (λ bytes place. taken_as (λ op. ArithOp (slice_index_or ariths op Add)) (u8 (within 0 4) bytes place))
       ∷ (λ bytes place. taken_as (λ op. CompareOp (slice_index_or compares op Eq)) (u8 (within 0 2) bytes place))
       ∷ (λ bytes place. taken_as (λ op. TextCompareOp (slice_index_or text_compares op TEq)) (u8 (within 0 1) bytes place))
-      ∷ (λ bytes place. Takes Cat bytes place)
-      ∷ (λ bytes place. Takes Len bytes place)
-      ∷ (λ bytes place. Takes Not bytes place)
+      ∷ (λ bytes place. Took Cat bytes place)
+      ∷ (λ bytes place. Took Len bytes place)
+      ∷ (λ bytes place. Took Not bytes place)
       ∷ []
 
   abbrev pub instruction_read : (n i : ℕ) → Reader Instruction
@@ -227,7 +227,7 @@ module _ (types : List ListedType) (functions : ℕ) where
 -- WHOLE OBJECTS
 abbrev pub magic_read : Reader ℕ
 magic_read bytes place =
-    if nat_lt (length bytes) 4 then CutShort else (if bytes_eq (take 4 bytes) object_magic then Takes 0 (drop 4 bytes) (place + 4) else BadAt place)
+    if nat_lt (length bytes) 4 then CutShort else (if bytes_eq (take 4 bytes) object_magic then Took 0 (drop 4 bytes) (place + 4) else BadAt place)
 
 -- an object behind the number of its functions, its state, its types and their number, and the magic
 abbrev pub behind_function_count : List ListedType → ℕ → ℕ → Reader Object

@@ -6,7 +6,7 @@ use Rattle.core_terms.specs.Terms.{Kind, Inner}
 use Rattle.core_terms.specs.declared.roles.RoleKind.{RoleKind}
 use Rattle.core_terms.specs.declared.roles.RoleKind.TheVariants.{Init, Query, Update}
 use Rattle.object_meaning.specs.Objects.{ListedFunction, ListedType}
-use Rattle.object_meaning.specs.Readers.{Taken, Takes, CutShort, BadAt, then_take, taken_as, u8, within}
+use Rattle.object_meaning.specs.Readers.{Taken, Took, CutShort, BadAt, then_take, taken_as, u8, within}
 use Rattle.object_meaning.specs.ReadObjects.{behind_kind, behind_name, function_read, is_lower_name, kinds, name_read, role_names, role_name_read}
 use Rattle.object_meaning.proofs.RoleNames.{role_names_more}
 use Rattle.object_reader.specs.NamesRead.{names_in}
@@ -39,7 +39,7 @@ named_more keys keys' before f known more =
 
 module _ (types : List ListedType) (functions : ℕ) where
   behind_role : (kind : Kind) (t : Taken (List ℕ)) → then_take t (behind_name types functions kind) ≡ then_take {A = Kind × List ℕ} (taken_as {B = Kind × List ℕ} (λ name. (kind, name)) t) (λ r. behind_name types functions r.0 r.1)
-  behind_role kind (Takes name rest behind) = refl
+  behind_role kind (Took name rest behind) = refl
   behind_role kind CutShort = refl
   behind_role kind (BadAt offset) = refl
 
@@ -49,7 +49,7 @@ module _ (types : List ListedType) (functions : ℕ) where
     where
       by : (t : Taken ℕ) → then_take t (λ number. behind_kind types functions before (slice_index_or kinds number Inner))
           ≡ then_take {A = Kind × List ℕ} (then_take {B = Kind × List ℕ} t (λ number bytes place. let kind = slice_index_or kinds number Inner in taken_as {B = Kind × List ℕ} (λ name. (kind, name)) (role_name_read kind before bytes place))) (λ r. behind_name types functions r.0 r.1)
-      by (Takes number rest behind) =
+      by (Took number rest behind) =
           let kind = slice_index_or kinds number Inner in
           behind_role kind (role_name_read kind before rest behind)
       by CutShort = refl

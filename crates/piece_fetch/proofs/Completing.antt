@@ -17,7 +17,7 @@ use Rattle.ideal_meaning.specs.Checked as checked
 use Rattle.ideal_meaning.specs.Fetched.{Got, IsPiece, IsLack, IsBroken, Gave, GaveLast, Answered, HoldsAll, verdict_from}
 use Rattle.ideal_meaning.specs.FetchLaws.{IsStore}
 use Rattle.ideal_meaning.specs.PieceForms.{IsOfWhole}
-use Rattle.ideal_meaning.specs.Headline.{call_of}
+use Rattle.ideal_meaning.specs.Headline.{call_values}
 use Rattle.ideal_meaning.proofs.Fetching.{fetch_companion}
 use Rattle.ideal_meaning.proofs.RoleCalls.{parameters_are, result_is}
 use Rattle.mode_vm.specs.StateCalls.{TakesState}
@@ -58,9 +58,9 @@ module _ {U : Type 0} (hash : Hash) (May : U → List ℕ → Got → U → Type
 module _ (hash : Hash) (is_hash : IsHash hash) (P : Program) (format : IsFormat P.format) (typed : IsTyped P) (whole : IsOfWhole hash P)
     (f : ℕ) (takes : TakesState P f) (state argument : List ℕ) (k : ℕ) (v x : Value) (ideal_state : IsIdeal P.types P.state v) (ideal_argument : IsIdeal P.types (argument_type P f) x)
     (state_spelled : state ≡ spelling (projection hash P P.state v)) (argument_spelled : argument ≡ spelling (projection hash P (argument_type P f) x))
-    (state_fits : Fits P P.state v) (argument_fits : Fits P (argument_type P f) x) (fit : AllOpenedFit P (state_of (ideal.ideal P f (call_of v x) k)))
+    (state_fits : Fits P P.state v) (argument_fits : Fits P (argument_type P f) x) (fit : AllOpenedFit P (state_of (ideal.ideal P f (call_values v x) k)))
     {U : Type 0} (May : U → List ℕ → Got → U → Type 0) (Such : U → Type 0) (get : List ℕ → Got) (by : (old : U) (d : List ℕ) (a : Got) (new : U) → Such old → May old d a new → Such new × (a ≡ get d)) (store : IsStore hash get)
-    (holds : HoldsAll hash P get (state_of (ideal.ideal P f (call_of v x) k))) (old new : U) (such : Such old) where
+    (holds : HoldsAll hash P get (state_of (ideal.ideal P f (call_values v x) k))) (old new : U) (such : Such old) where
   abbrev over : List Got → checked.Verdict
   over answers = verdict_over hash May P f state argument k v x old new answers
 
@@ -84,8 +84,8 @@ module _ (hash : Hash) (is_hash : IsHash hash) (P : Program) (format : IsFormat 
       let h = fetch_companion hash is_hash P format typed whole f kind t answer role takes.4 v x ideal_state ideal_argument state_fits argument_fits k fit get store holds answers
       (subst (λ w. Answered {A = Unit {0}} hash (λ old d a new. a ≡ get d) tt answers w tt) shown plainly) in
       let same : role_result kind P.state answer ≡ (function_at P f).result = sym (result_is P f kind t answer role) in
-      subst (λ z. (over answers ≡ checked.Accepted (ideal.outcome_projection hash P z (ideal.outcome (ideal.ideal P f (call_of v x) k)))) ⊎ IsSplit answers) same
-      (subst (λ w. (w ≡ checked.Accepted (ideal.outcome_projection hash P (role_result kind P.state answer) (ideal.outcome (ideal.ideal P f (call_of v x) k)))) ⊎ IsSplit answers) (sym shown) h)
+      subst (λ z. (over answers ≡ checked.Accepted (ideal.outcome_projection hash P z (ideal.outcome (ideal.ideal P f (call_values v x) k)))) ⊎ IsSplit answers) same
+      (subst (λ w. (w ≡ checked.Accepted (ideal.outcome_projection hash P (role_result kind P.state answer) (ideal.outcome (ideal.ideal P f (call_values v x) k)))) ⊎ IsSplit answers) (sym shown) h)
 
   split_of : (answers : List Got) (w : checked.Verdict) → over answers ≡ w → Answered hash May old answers w new → ((o : ideal.Outcome) → w ≡ checked.Accepted o → ⊥) → HasSplit hash May P f state argument k v x old new
   split_of answers w is given not = by_case (told answers given')

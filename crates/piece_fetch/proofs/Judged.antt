@@ -18,7 +18,7 @@ use Rattle.ideal_meaning.specs.Frames.{offered_pieces}
 use Rattle.ideal_meaning.specs.Checked as checked
 use Rattle.ideal_meaning.specs.Fetched.{Got, IsPiece, IsLack, IsBroken, Gave, GaveLast, Answered, answered, asking, ended, fetched, whole_pieces, from_argument, from_state, verdict_from, TrueFromOrSplit}
 use Rattle.ideal_meaning.specs.PieceForms.{IsOfWhole}
-use Rattle.ideal_meaning.specs.Headline.{call_of}
+use Rattle.ideal_meaning.specs.Headline.{call_values}
 use Rattle.ideal_meaning.specs.Told.{trap_told}
 use Rattle.ideal_meaning.proofs.Fetching.{fetch_headline}
 use Rattle.ideal_meaning.proofs.Opening.{ReadsBack}
@@ -108,16 +108,16 @@ module _ (hash : Hash) (P : Program) (f : ℕ) (state argument : List ℕ) (k : 
       (accepted : verdict_from hash P (argument_type P f) f state argument k answers ≡ checked.Accepted o)
       (none : offered_pieces (state_of (fetched hash P f (AndV s (AndV a NoV)) k (asking answers))).more ≡ []) where
     no_more : (t : Ty) (v x : Value) (more : List (List ℕ)) → t ≡ (function_at P f).result → more ≡ []
-        → TrueFromOrSplit hash P f t (call_of v x) k (offered_pieces (answered answers)) more o → FetchedTrueOrSplit hash P f (call_of v x) k (offered_pieces (answered answers)) o
+        → TrueFromOrSplit hash P f t (call_values v x) k (offered_pieces (answered answers)) more o → FetchedTrueOrSplit hash P f (call_values v x) k (offered_pieces (answered answers)) o
     no_more t v x more r e (inl h) = inl (
-      h.0 ∙ ap (λ m. ideal.bytes_of (whole_pieces hash P f (call_of v x) k) ++ m) e ∙ append-nil (ideal.bytes_of (whole_pieces hash P f (call_of v x) k)),
-      h.1 ∙ ap (λ t. ideal.outcome_projection hash P t (ideal.outcome (ideal.ideal P f (call_of v x) k))) r,
+      h.0 ∙ ap (λ m. ideal.bytes_of (whole_pieces hash P f (call_values v x) k) ++ m) e ∙ append-nil (ideal.bytes_of (whole_pieces hash P f (call_values v x) k)),
+      h.1 ∙ ap (λ t. ideal.outcome_projection hash P t (ideal.outcome (ideal.ideal P f (call_values v x) k))) r,
     )
     no_more t v x more r e (inr h) = inr h
 
     -- what is accepted is true, or there is a split
     pub says : (v x : Value) → IsIdeal P.types P.state v → IsIdeal P.types (argument_type P f) x → state ≡ spelling (projection hash P P.state v)
-        → argument ≡ spelling (projection hash P (argument_type P f) x) → FetchedTrueOrSplit hash P f (call_of v x) k (offered_pieces (answered answers)) o
+        → argument ≡ spelling (projection hash P (argument_type P f) x) → FetchedTrueOrSplit hash P f (call_values v x) k (offered_pieces (answered answers)) o
     says v x ideal_state ideal_argument state_spelled argument_spelled =
         let t = argument_type P f in
         let kind = takes.0 in

@@ -15,7 +15,7 @@ use Rattle.ideal_meaning.specs.Frames.{offered_pieces}
 use Rattle.ideal_meaning.specs.Checked as checked
 use Rattle.ideal_meaning.specs.Fetched.{Got, Answered, HoldsAll, answered, verdict_from, whole_pieces}
 use Rattle.ideal_meaning.specs.FetchLaws.{IsStore}
-use Rattle.ideal_meaning.specs.Headline.{call_of}
+use Rattle.ideal_meaning.specs.Headline.{call_values}
 use Rattle.ideal_meaning.specs.SpelledOutcomes.{SpellsOutcome}
 use Rattle.piece_fetch.specs.declared.verdict.FetchVerdict.{FetchVerdict}
 use Rattle.piece_fetch.specs.declared.verdict.FetchVerdict.TheVariants.{Rejected, BadState, BadArgument, FetchFault, NoMemory}
@@ -27,14 +27,14 @@ AnswersBy {U = U} May get = (old : U) (d : List ℕ) (a : Got) (new : U) → May
 module _ {U : Type 0} (hash : Hash) (May : U → List ℕ → Got → U → Type 0) (P : Program) (f : ℕ) (state argument : List ℕ) (k : ℕ) (v a : Value) (old new : U) where
   -- the projection of the ideal outcome
   abbrev pub true_outcome : ideal.Outcome
-  true_outcome = ideal.outcome_projection hash P (function_at P f).result (ideal.outcome (ideal.ideal P f (call_of v a) k))
+  true_outcome = ideal.outcome_projection hash P (function_at P f).result (ideal.outcome (ideal.ideal P f (call_values v a) k))
 
   abbrev pub verdict_over : List Got → checked.Verdict
   verdict_over answers = verdict_from hash P (argument_type P f) f state argument k answers
 
   -- the pieces answered and the honest ones first differ at a place where both have one digest
   abbrev pub SplitOver : List Got → Type 0
-  SplitOver answers = (i : ℕ) × checked.IsSplitAt (λ t bytes. hash bytes) (offered_pieces (answered answers)) (whole_pieces hash P f (call_of v a) k) i
+  SplitOver answers = (i : ℕ) × checked.IsSplitAt (λ t bytes. hash bytes) (offered_pieces (answered answers)) (whole_pieces hash P f (call_values v a) k) i
 
   abbrev pub HasSplit : Type 0
   HasSplit = (answers : List Got) × Answered hash May old answers (verdict_over answers) new × SplitOver answers
@@ -53,6 +53,6 @@ module _ {U : Type 0} (hash : Hash) (May : U → List ℕ → Got → U → Type
 abbrev pub IsComplete : {U : Type 0} → Hash → (U → List ℕ → Got → U → Type 0) → Program → ℕ → (state argument : List ℕ) → ℕ → (old new : U) → Result (Outcome Spelling) FetchVerdict → Type 0
 IsComplete {U = U} hash May P f state argument k old new result = (v a : Value) → IsIdeal P.types P.state v → IsIdeal P.types (argument_type P f) a
     → state ≡ spelling (projection hash P P.state v) → argument ≡ spelling (projection hash P (argument_type P f) a)
-    → Fits P P.state v → Fits P (argument_type P f) a → AllOpenedFit P (state_of (ideal.ideal P f (call_of v a) k))
-    → (get : U → List ℕ → Got) → AnswersBy May get → IsStore hash (get old) → HoldsAll hash P (get old) (state_of (ideal.ideal P f (call_of v a) k))
+    → Fits P P.state v → Fits P (argument_type P f) a → AllOpenedFit P (state_of (ideal.ideal P f (call_values v a) k))
+    → (get : U → List ℕ → Got) → AnswersBy May get → IsStore hash (get old) → HoldsAll hash P (get old) (state_of (ideal.ideal P f (call_values v a) k))
     → Completes hash May P f state argument k v a old new result

@@ -13,7 +13,7 @@ use Rattle.ideal_meaning.specs.Ideal as ideal
 use Rattle.ideal_meaning.specs.Frames.{offered_pieces}
 use Rattle.ideal_meaning.specs.Checked as checked
 use Rattle.ideal_meaning.specs.Fetched.{Got, Answered, answered, verdict_from, whole_pieces}
-use Rattle.ideal_meaning.specs.Headline.{call_of}
+use Rattle.ideal_meaning.specs.Headline.{call_values}
 use Rattle.ideal_meaning.specs.SpelledOutcomes.{SpellsOutcome}
 use Rattle.mode_vm.specs.declared.mode.Stop.{Stop}
 use Rattle.mode_vm.specs.declared.mode.Stop.TheVariants as stop
@@ -72,7 +72,7 @@ module _ {U : Type 0} (hash : Hash) (May : U → List ℕ → Got → U → Type
     pub spelled : SpellsOutcome P (function_at P f).result outcome told
     pub says : (v a : Value) → IsIdeal P.types P.state v → IsIdeal P.types (argument_type P f) a
         → state ≡ spelling (projection hash P P.state v) → argument ≡ spelling (projection hash P (argument_type P f) a)
-        → FetchedTrueOrSplit hash P f (call_of v a) k (offered_pieces (answered answers)) outcome
+        → FetchedTrueOrSplit hash P f (call_values v a) k (offered_pieces (answered answers)) outcome
 
   pub record Rejects (told : FetchCause) : Type 0 where
     pub answers : List Got

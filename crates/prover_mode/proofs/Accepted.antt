@@ -11,7 +11,7 @@ use Rattle.core_terms.specs.Values.{Value}
 use Rattle.core_terms.specs.declared.program.Program.{Program as Coded}
 use Rattle.ideal_meaning.specs.Checked.{Accepted, verdict}
 use Rattle.ideal_meaning.specs.Frames.{proof_file}
-use Rattle.ideal_meaning.specs.Headline.{call_of}
+use Rattle.ideal_meaning.specs.Headline.{call_values}
 use Rattle.ideal_meaning.specs.Ideal.{bytes_of, honest_pieces, ideal, outcome, outcome_projection}
 use Rattle.ideal_meaning.proofs.Companion.{companion}
 use Rattle.ideal_meaning.proofs.RoleCalls.{result_is}
@@ -27,12 +27,12 @@ module _ (hash : Hash) (is_hash : IsHash hash) (p : Coded) (f : ℕ) (takes : Ta
   P = meaning p
 
   abbrev file : List ℕ
-  file = proof_file P.format n (bytes_of (honest_pieces hash P f (call_of s a) k))
+  file = proof_file P.format n (bytes_of (honest_pieces hash P f (call_values s a) k))
 
   -- by the argument's type and by that of the result
   abbrev Accepts : (t z : Ty) → Type 0
   Accepts t z =
-      verdict hash P t f (spelling (projection hash P P.state s)) (spelling (projection hash P t a)) k file ≡ Accepted (outcome_projection hash P z (outcome (ideal P f (call_of s a) k)))
+      verdict hash P t f (spelling (projection hash P P.state s)) (spelling (projection hash P t a)) k file ≡ Accepted (outcome_projection hash P z (outcome (ideal P f (call_values s a) k)))
 
   accepts : Accepts takes.1 (role_result takes.0 P.state takes.2)
   accepts =

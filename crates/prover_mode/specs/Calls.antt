@@ -7,7 +7,7 @@ use Rattle.core_terms.specs.Spelling.{spelling}
 use Rattle.core_terms.specs.Terms.{Program, function_at}
 use Rattle.core_terms.specs.Values.{Value}
 use Rattle.ideal_meaning.specs.Checked.{Accepted, verdict}
-use Rattle.ideal_meaning.specs.Headline.{call_of}
+use Rattle.ideal_meaning.specs.Headline.{call_values}
 use Rattle.ideal_meaning.specs.Ideal as ideal
 
 -- The verdict on these bytes of a proof file, for a call of function f with fuel k, given the spellings of the projected state and
@@ -15,4 +15,4 @@ use Rattle.ideal_meaning.specs.Ideal as ideal
 abbrev pub IsAccepted : Hash → Program → ℕ → (state argument : Value) → ℕ → List ℕ → Type 0
 IsAccepted hash P f state argument k proof =
     verdict hash P (argument_type P f) f (spelling (projection hash P P.state state)) (spelling (projection hash P (argument_type P f) argument)) k proof
-    ≡ Accepted (ideal.outcome_projection hash P (function_at P f).result (ideal.outcome (ideal.ideal P f (call_of state argument) k)))
+    ≡ Accepted (ideal.outcome_projection hash P (function_at P f).result (ideal.outcome (ideal.ideal P f (call_values state argument) k)))

@@ -6,7 +6,7 @@ ghost use Rattle.core_terms.specs.Projection.{digest_at};
 ghost use Rattle.core_terms.specs.Terms.{function_at};
 ghost use Rattle.core_terms.specs.Values.{Value};
 ghost use Rattle.ideal_meaning.specs.Frames.{frame_bytes, proof_file};
-ghost use Rattle.ideal_meaning.specs.Headline.{call_of};
+ghost use Rattle.ideal_meaning.specs.Headline.{call_values};
 ghost use Rattle.ideal_meaning.specs.Ideal as ideal;
 ghost use Rattle.value_store.specs.Markings.{HasLimit};
 ghost use Rattle.value_store.specs.Standing.{Keeps, ProverNodes};
@@ -49,17 +49,17 @@ pub fn prove_file<H: Hash32, N: Nodes>(
     requires fuel_fits { fuel ≤ 10 ^ 12 }
     requires size { size ≤ (program_of code.now).format.most_kept }
     ensures value { let P = program_of code.now in IfOk result (λ told. (s a : Value) → IsCalledOn H.hash P role.0 (N.nodes store.old) state argument s a
-        → IsOutcome (ProverNodes (digest_at H.hash P)) P.types (N.nodes store.new) (function_at P role.0).result told.0.value (ideal.outcome (ideal.ideal P role.0 (call_of s a) fuel))) }
+        → IsOutcome (ProverNodes (digest_at H.hash P)) P.types (N.nodes store.new) (function_at P role.0).result told.0.value (ideal.outcome (ideal.ideal P role.0 (call_values s a) fuel))) }
     ensures outcome { let P = program_of code.now in IfOk result (λ told. (s a : Value) → IsCalledOn H.hash P role.0 (N.nodes store.old) state argument s a
-        → SpellsOutcome P (function_at P role.0).result (ideal.outcome_projection H.hash P (function_at P role.0).result (ideal.outcome (ideal.ideal P role.0 (call_of s a) fuel))) told.0.outcome) }
+        → SpellsOutcome P (function_at P role.0).result (ideal.outcome_projection H.hash P (function_at P role.0).result (ideal.outcome (ideal.ideal P role.0 (call_values s a) fuel))) told.0.outcome) }
     ensures frames { let P = program_of code.now in IfOk result (λ told. (s a : Value) → IsCalledOn H.hash P role.0 (N.nodes store.old) state argument s a
-        → told.0.frames.items ≡ frame_bytes (run_frames H.hash P role.0 (call_of s a) fuel size [])) }
+        → told.0.frames.items ≡ frame_bytes (run_frames H.hash P role.0 (call_values s a) fuel size [])) }
     ensures fresh { let P = program_of code.now in IfOk result (λ told. (s a : Value) → IsCalledOn H.hash P role.0 (N.nodes store.old) state argument s a
-        → told.0.fresh ≡ fresh_in (run_frames H.hash P role.0 (call_of s a) fuel size [])) }
+        → told.0.fresh ≡ fresh_in (run_frames H.hash P role.0 (call_values s a) fuel size [])) }
     ensures again { let P = program_of code.now in IfOk result (λ told. (s a : Value) → IsCalledOn H.hash P role.0 (N.nodes store.old) state argument s a
-        → told.0.again ≡ again_in (run_frames H.hash P role.0 (call_of s a) fuel size [])) }
+        → told.0.again ≡ again_in (run_frames H.hash P role.0 (call_values s a) fuel size [])) }
     ensures file { let P = program_of code.now in IfOk result (λ told. (s a : Value) → IsCalledOn H.hash P role.0 (N.nodes store.old) state argument s a
-        → told.1.items ≡ proof_file P.format size (ideal.bytes_of (ideal.honest_pieces H.hash P role.0 (call_of s a) fuel))) }
+        → told.1.items ≡ proof_file P.format size (ideal.bytes_of (ideal.honest_pieces H.hash P role.0 (call_values s a) fuel))) }
     ensures accepted { let P = program_of code.now in IfOk result (λ told. (s a : Value) → IsCalledOn H.hash P role.0 (N.nodes store.old) state argument s a
         → IsAccepted H.hash P role.0 s a fuel told.1.items) }
     ensures keeps { Keeps (N.nodes store.old) (N.nodes store.new) }

@@ -3,7 +3,7 @@ ghost use Rattle.std.specs.Prelude.{◌≡◌, ◌<◌, ◌≤◌, ◌^◌, ℕ,
 ghost use Rattle.core_terms.specs.Projection.{digest_at};
 ghost use Rattle.core_terms.specs.Terms.{function_at};
 ghost use Rattle.core_terms.specs.Values.{Value};
-ghost use Rattle.ideal_meaning.specs.Headline.{call_of};
+ghost use Rattle.ideal_meaning.specs.Headline.{call_values};
 ghost use Rattle.ideal_meaning.specs.Ideal as ideal;
 ghost use Rattle.value_store.specs.Markings.{HasLimit};
 ghost use Rattle.value_store.specs.Standing.{Keeps, ProverNodes};
@@ -60,12 +60,12 @@ pub fn prove<H: Hash32, N: Nodes>(
     requires limit { HasLimit (program_of code.now) (N.lent store.old) }
     requires fuel_fits { fuel ≤ 10 ^ 12 }
     ensures value { let P = program_of code.now in IfOk result (λ told. (s a : Value) → IsCalledOn H.hash P role.0 (N.nodes store.old) state argument s a
-        → IsOutcome (ProverNodes (digest_at H.hash P)) P.types (N.nodes store.new) (function_at P role.0).result told.0.value (ideal.outcome (ideal.ideal P role.0 (call_of s a) fuel))) }
+        → IsOutcome (ProverNodes (digest_at H.hash P)) P.types (N.nodes store.new) (function_at P role.0).result told.0.value (ideal.outcome (ideal.ideal P role.0 (call_values s a) fuel))) }
     ensures outcome { let P = program_of code.now in IfOk result (λ told. (s a : Value) → IsCalledOn H.hash P role.0 (N.nodes store.old) state argument s a
-        → SpellsOutcome P (function_at P role.0).result (ideal.outcome_projection H.hash P (function_at P role.0).result (ideal.outcome (ideal.ideal P role.0 (call_of s a) fuel))) told.0.outcome) }
+        → SpellsOutcome P (function_at P role.0).result (ideal.outcome_projection H.hash P (function_at P role.0).result (ideal.outcome (ideal.ideal P role.0 (call_values s a) fuel))) told.0.outcome) }
     ensures frames { let P = program_of code.now in IfOk result (λ told. (s a : Value) (recent : List (List ℕ))
         → IsCalledOn H.hash P role.0 (N.nodes store.old) state argument s a → ring ≡ kept ring.size recent
-        → TellsFrames (run_frames H.hash P role.0 (call_of s a) fuel ring.size recent) ring.size recent told.0.frames.items told.0.fresh told.0.again told.1) }
+        → TellsFrames (run_frames H.hash P role.0 (call_values s a) fuel ring.size recent) ring.size recent told.0.frames.items told.0.fresh told.0.again told.1) }
     ensures keeps { Keeps (N.nodes store.old) (N.nodes store.new) }
     ensures lent { N.lent store.new ≡ N.lent store.old }
 {

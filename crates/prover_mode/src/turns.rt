@@ -2,7 +2,7 @@
 ghost use Rattle.std.specs.Prelude.{◌≡◌, ◌<◌, ◌≤◌, ◌+◌, ◌-◌, ◌^◌, ℕ, List, IfOk, IfSome, IfNone, length};
 ghost use Rattle.core_terms.specs.Values.{Value, Values};
 ghost use Rattle.ideal_meaning.specs.Frames.{frame_bytes};
-ghost use Rattle.ideal_meaning.specs.Headline.{call_of};
+ghost use Rattle.ideal_meaning.specs.Headline.{call_values};
 ghost use Rattle.value_store.specs.Markings.{HasLimit};
 ghost use Rattle.value_store.specs.Nodes.{Node};
 ghost use Rattle.value_store.specs.Standing.{Keeps};
@@ -55,7 +55,7 @@ impl<H: Hash32> Proving<H> {
         requires role { TakesState (program_of code.now) role.0 }
         requires fuel_fits { fuel ≤ 10 ^ 12 }
         ensures { IfOk result (λ proving. (nodes : List Node) (s a : Value) → IsCalledOn H.hash (program_of code.now) role.0 nodes state argument s a
-            → IsProving H.hash code.now nodes proving role.0 (call_of s a) fuel 0) }
+            → IsProving H.hash code.now nodes proving role.0 (call_values s a) fuel 0) }
     {
         let fronts = Fronts::of_types::<H>(code.types(), alloc)?;
         let prover = Prover::<H>::new(alloc, fronts);

@@ -30,8 +30,8 @@ module _ {R A : Type 0} (of : R → A) (k : ℕ) where
   Tells (Err NoMemory) run = ⊤
 
 -- Whatever run the operands tell, the result tells that run with this behind it.
-abbrev pub GoesOn : {R A : Type 0} → (R → A) → (A → ℕ → List ideal.Opened → Evaluation Value) → Result R Stop → Result Plain Stop → Type 0
-GoesOn of go operands result = (k : ℕ) (run : Evaluation _) → Tells of k operands run → Tells plain_of k result (then_run run go)
+abbrev pub TellsBehind : {R A : Type 0} → (R → A) → (A → ℕ → List ideal.Opened → Evaluation Value) → Result R Stop → Result Plain Stop → Type 0
+TellsBehind of go operands result = (k : ℕ) (run : Evaluation _) → Tells of k operands run → Tells plain_of k result (then_run run go)
 
 -- two values, values in a row, what a calculation on ints gives, and what goes on at the place of an element
 abbrev pub pair_values : Plain × Plain → Value × Value

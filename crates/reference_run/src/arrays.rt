@@ -7,7 +7,7 @@ ghost use Rattle.core_terms.specs.Values.{Value};
 ghost use Rattle.ideal_meaning.specs.Ideal.{Opened};
 ghost use Rattle.ideal_meaning.specs.Run as meant;
 ghost use Rattle.reference_run.specs.PlainValues.{plain_of, plains_of};
-ghost use Rattle.reference_run.specs.Telling.{Evaluation, GoesOn, Tells, at_place, row_values};
+ghost use Rattle.reference_run.specs.Telling.{Evaluation, TellsBehind, Tells, at_place, row_values};
 
 use crate::copies::{repeated, value_at};
 use crate::measures::new_array;
@@ -23,7 +23,7 @@ pub(crate) fn operate(
     operands: Result<Vec<Plain>, Stop>,
     alloc: Global,
 ) -> Result<Plain, Stop>
-    ensures { let P = meaning program.now in GoesOn row_values (λ vs k seen. meant.operate P.format.limit P.types (operation_of (types_of program.now) operation) vs k seen) operands result }
+    ensures { let P = meaning program.now in TellsBehind row_values (λ vs k seen. meant.operate P.format.limit P.types (operation_of (types_of program.now) operation) vs k seen) operands result }
 {
     let operands = operands?;
     match operation {

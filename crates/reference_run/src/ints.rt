@@ -3,7 +3,7 @@ ghost use Rattle.std.specs.Prelude.{◌≡◌, ℕ, List};
 ghost use Rattle.core_terms.specs.Values.{BoolV};
 ghost use Rattle.ideal_meaning.specs.Ideal.{Opened};
 ghost use Rattle.ideal_meaning.specs.Run as meant;
-ghost use Rattle.reference_run.specs.Telling.{GoesOn, calculation_of, pair_values};
+ghost use Rattle.reference_run.specs.Telling.{TellsBehind, calculation_of, pair_values};
 
 use crate::stop::Stop;
 use crate::values::{Plain, int_in};
@@ -11,7 +11,7 @@ use core_terms::{Arith, Compare, Trap};
 
 /// The result of an operation on two ints.
 pub(crate) fn arith(op: Arith, operands: Result<(Plain, Plain), Stop>) -> Result<Plain, Stop>
-    ensures { GoesOn pair_values (λ xy k seen. meant.arith_of op (meant.int_in xy.0) (meant.int_in xy.1) k seen) operands result }
+    ensures { TellsBehind pair_values (λ xy k seen. meant.arith_of op (meant.int_in xy.0) (meant.int_in xy.1) k seen) operands result }
 {
     let (x, y) = operands?;
     match calculated(op, int_in(&x), int_in(&y)) {
@@ -22,7 +22,7 @@ pub(crate) fn arith(op: Arith, operands: Result<(Plain, Plain), Stop>) -> Result
 
 /// Whether a comparison of two ints holds.
 pub(crate) fn compare(op: Compare, operands: Result<(Plain, Plain), Stop>) -> Result<Plain, Stop>
-    ensures { GoesOn pair_values (λ xy k seen. meant.Gives (BoolV (meant.compare_of op (meant.int_in xy.0) (meant.int_in xy.1))) k seen) operands result }
+    ensures { TellsBehind pair_values (λ xy k seen. meant.Gives (BoolV (meant.compare_of op (meant.int_in xy.0) (meant.int_in xy.1))) k seen) operands result }
 {
     let (x, y) = operands?;
     Ok(Plain::BoolValue(compared(op, int_in(&x), int_in(&y))))

@@ -9,7 +9,7 @@ ghost use Rattle.ideal_meaning.specs.Ideal.{Opened};
 ghost use Rattle.ideal_meaning.specs.Run as meant;
 ghost use Rattle.reference_run.specs.Measured.{IsMeasured};
 ghost use Rattle.reference_run.specs.PlainValues.{plain_of, plains_of};
-ghost use Rattle.reference_run.specs.Telling.{GoesOn, Tells, pair_values, row_values};
+ghost use Rattle.reference_run.specs.Telling.{TellsBehind, Tells, pair_values, row_values};
 
 use crate::stop::Stop;
 use crate::values::{Plain, pair_of};
@@ -166,7 +166,7 @@ pub(crate) fn new_pair(
     operands: Result<(Plain, Plain), Stop>,
     alloc: Global,
 ) -> Result<Plain, Stop>
-    ensures { let P = meaning program.now in let t = PairTy (type_at (types_of program.now) types.0) (type_at (types_of program.now) types.1) in GoesOn pair_values (λ xy k seen. meant.limited P.format.limit P.types t (PairV xy.0 xy.1) k seen) operands result }
+    ensures { let P = meaning program.now in let t = PairTy (type_at (types_of program.now) types.0) (type_at (types_of program.now) types.1) in TellsBehind pair_values (λ xy k seen. meant.limited P.format.limit P.types t (PairV xy.0 xy.1) k seen) operands result }
 {
     let (first, second) = operands?;
     let pair = pair_of(first, second, alloc)?;
@@ -181,7 +181,7 @@ pub(crate) fn new_constructor(
     tag: Tag,
     fields: Result<Vec<Plain>, Stop>,
 ) -> Result<Plain, Stop>
-    ensures { let P = meaning program.now in GoesOn row_values (λ vs k seen. meant.limited P.format.limit P.types (NamedTy named.0) (ConV tag.0 vs) k seen) fields result }
+    ensures { let P = meaning program.now in TellsBehind row_values (λ vs k seen. meant.limited P.format.limit P.types (NamedTy named.0) (ConV tag.0 vs) k seen) fields result }
 {
     let value = Plain::ConstructorValue(tag, fields?);
     let measures = constructor_measures(program, named, &value);

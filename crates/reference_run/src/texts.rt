@@ -6,7 +6,7 @@ ghost use Rattle.core_terms.specs.Values.{BoolV, IntV, TextV};
 ghost use Rattle.ideal_meaning.specs.Ideal.{Opened};
 ghost use Rattle.ideal_meaning.specs.Run as meant;
 ghost use Rattle.reference_run.specs.PlainValues.{plain_of};
-ghost use Rattle.reference_run.specs.Telling.{GoesOn, Tells, pair_values};
+ghost use Rattle.reference_run.specs.Telling.{TellsBehind, Tells, pair_values};
 
 use crate::stop::Stop;
 use crate::values::{Plain, text_in};
@@ -18,7 +18,7 @@ const TEXT_LENGTH_SIZE: usize = 4;
 
 /// The number of bytes of a text.
 pub(crate) fn len(operand: Result<Plain, Stop>) -> Result<Plain, Stop>
-    ensures { GoesOn plain_of (λ v k seen. meant.Gives (IntV (pos (length (meant.text_in v)))) k seen) operand result }
+    ensures { TellsBehind plain_of (λ v k seen. meant.Gives (IntV (pos (length (meant.text_in v)))) k seen) operand result }
 {
     let text = operand?;
     Ok(Plain::IntValue(text_in(&text).len() as i64))
@@ -29,7 +29,7 @@ pub(crate) fn compare_texts(
     op: TextCompare,
     operands: Result<(Plain, Plain), Stop>,
 ) -> Result<Plain, Stop>
-    ensures { GoesOn pair_values (λ xy k seen. meant.Gives (BoolV (meant.text_compare_of op (meant.text_in xy.0) (meant.text_in xy.1))) k seen) operands result }
+    ensures { TellsBehind pair_values (λ xy k seen. meant.Gives (BoolV (meant.text_compare_of op (meant.text_in xy.0) (meant.text_in xy.1))) k seen) operands result }
 {
     let (x, y) = operands?;
     Ok(Plain::BoolValue(compared(op, text_in(&x), text_in(&y))))
@@ -41,7 +41,7 @@ pub(crate) fn cat(
     operands: Result<(Plain, Plain), Stop>,
     alloc: Global,
 ) -> Result<Plain, Stop>
-    ensures { GoesOn pair_values (λ xy k seen. meant.limited (meaning program.now).format.limit (meaning program.now).types TextTy (TextV (meant.text_in xy.0 ++ meant.text_in xy.1)) k seen) operands result }
+    ensures { TellsBehind pair_values (λ xy k seen. meant.limited (meaning program.now).format.limit (meaning program.now).types TextTy (TextV (meant.text_in xy.0 ++ meant.text_in xy.1)) k seen) operands result }
 {
     let (x, y) = operands?;
     joined(program, text_in(&x), text_in(&y), alloc)

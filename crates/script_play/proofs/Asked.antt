@@ -14,7 +14,7 @@ use Rattle.ask_core.specs.declared.told.AskFault.{AskFault}
 use Rattle.ask_core.specs.declared.told.AskFault.TheVariants.{BadState, BadArgument, OutOfTurn, Rejected, Stranger, WrongReply, Failed, Broken, Closed, NoMemory as NoAskMemory}
 use Rattle.script_play.specs.Plays.{Deed, Sends, Tells, Play, asked_play, asks, behind, goes_behind, if_goes, rests}
 use Rattle.script_play.specs.Playing.{AreComing, BreaksOff, PlaysAs, SendsRequest, World, done, world}
-use Rattle.script_play.specs.PlayingInCode.{Answers, IsAnswered, IsTelling, IsTold, is_sending}
+use Rattle.script_play.specs.PlayingInCode.{ClientAnswers, IsAnswered, IsTelling, TellingIsTold, is_sending}
 use Rattle.script_play.specs.declared.halt.Halt.{Halt}
 use Rattle.script_play.specs.declared.halt.Halt.TheVariants.{Ended, LinkFault, WriteFault, NoMemory}
 use Rattle.script_play.specs.declared.telling.Telling.{Telling}
@@ -98,7 +98,7 @@ module _ (P : Program) (names : ConstructorNames) (session : ℕ) (t : meant.Tak
 
   pub asked_told : (written written' last last' : Option (List ℕ)) (fault : AskFault) (telling : Telling) → t.answer ≡ fault_told fault
       → IsTelling P names (Tells session no_role (fault_told fault)) (goes_behind (fault_told fault)) telling → AreComing left' ms
-      → (r : Result (Unit {0}) Halt) → IsTold telling written written' last last' r
+      → (r : Result (Unit {0}) Halt) → TellingIsTold telling written written' last last' r
       → PlaysAs P names (λ c. c ≡ t.client) left' (world sent written last) (world sent written' last') (asked_play t session ms rests) r
   asked_told written written' last last' fault telling e tells comes r told =
       subst (λ q. PlaysAs P names (λ c. c ≡ t.client) left' (world sent written last) (world sent written' last') q r)
@@ -111,7 +111,7 @@ module _ (Is : meant.Client → Type 0) (c : meant.Client) (t : meant.Taken) whe
   refused_so : (fault : AskFault) → t ≡ meant.same_step c (fault_told fault) → Is c → (t.answer ≡ fault_told fault) × Is t.client
   refused_so fault e is = subst (λ u. (u.answer ≡ fault_told fault) × Is u.client) (sym e) (refl, is)
 
-  pub asks_answers : (r : Result AskedRequest AskFault) → Asks Is c t r → Answers Is t r
+  pub asks_answers : (r : Result AskedRequest AskFault) → Asks Is c t r → ClientAnswers Is t r
   asks_answers (Ok request) h = h
   asks_answers (Err NoAskMemory) h = tt
   asks_answers (Err (BadState offset)) h = refused_so (BadState offset) h.0 h.1
@@ -124,7 +124,7 @@ module _ (Is : meant.Client → Type 0) (c : meant.Client) (t : meant.Taken) whe
   asks_answers (Err (Broken kind)) h = refused_so (Broken kind) h.0 h.1
   asks_answers (Err (Closed cause)) h = refused_so (Closed cause) h.0 h.1
 
-  pub answers_any : (r : Result AskedRequest AskFault) → Answers Is t r → Answers (λ c. Unit {0}) t r
+  pub answers_any : (r : Result AskedRequest AskFault) → ClientAnswers Is t r → ClientAnswers (λ c. Unit {0}) t r
   answers_any (Ok request) h = (h.0, tt)
   answers_any (Err NoAskMemory) h = tt
   answers_any (Err (BadState offset)) h = (h.0, tt)
@@ -138,7 +138,7 @@ module _ (Is : meant.Client → Type 0) (c : meant.Client) (t : meant.Taken) whe
   answers_any (Err (Closed cause)) h = (h.0, tt)
 
   -- what is answered, but want of memory, leaves a client
-  pub answered_stands : (r : Result AskedRequest AskFault) → IsAnswered r → Answers Is t r → Is t.client
+  pub answered_stands : (r : Result AskedRequest AskFault) → IsAnswered r → ClientAnswers Is t r → Is t.client
   answered_stands (Ok request) k h = h.1
   answered_stands (Err NoAskMemory) k h = absurd k
   answered_stands (Err (BadState offset)) k h = h.1
@@ -166,7 +166,7 @@ module _ (Is : meant.Client → Type 0) (c : meant.Client) (t : meant.Taken) whe
   is_answered (Closed cause) other = tt
 
   -- a fault is answered so, but want of memory
-  pub fault_answered : (fault : AskFault) → ((hears forgets : meant.Taken) → step_taken hears forgets (Err fault) ≡ hears) → Answers Is t (Err fault) → (t.answer ≡ fault_told fault) × Is t.client
+  pub fault_answered : (fault : AskFault) → ((hears forgets : meant.Taken) → step_taken hears forgets (Err fault) ≡ hears) → ClientAnswers Is t (Err fault) → (t.answer ≡ fault_told fault) × Is t.client
   fault_answered NoAskMemory other h =
       let e : meant.OutOfTurn ≡ meant.WantsMemory = ap (λ (u : meant.Taken). u.answer) (other (meant.same_step c meant.WantsMemory) (meant.same_step c meant.OutOfTurn)) in
       absurd (cc)

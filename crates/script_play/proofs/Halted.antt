@@ -21,7 +21,7 @@ use Rattle.script_play.specs.DeedLines.{deed_bytes, deed_line, stop_line}
 use Rattle.script_play.specs.Halting.{HaltsAt, IsLeast, StopsWithin, TakesNone}
 use Rattle.script_play.specs.HaltingInCode.{FailsOn, HaltsOn, IsWhole, PlaysTo, TakesNext, TakesSoFar, TakesTold}
 use Rattle.script_play.specs.Playing.{World, done, world}
-use Rattle.script_play.specs.PlayingInCode.{IsTelling, IsTold, take_one}
+use Rattle.script_play.specs.PlayingInCode.{IsTelling, TellingIsTold, take_one}
 use Rattle.script_play.specs.Plays.{Deed, Play, Stops, behind, goes_behind, hears, if_goes, rests, then_play, told_of}
 use Rattle.script_play.specs.Tellings.{IsStop, IsStopTold}
 use Rattle.script_play.specs.declared.halt.Halt.{Halt}
@@ -356,7 +356,7 @@ module _ (hash : Hash) (P : Program) (names : ConstructorNames) (own : List ℕ)
   -- what is told of it is played
   module _ (sent sent' written written' last last' : Option (List ℕ)) (same : sent' ≡ sent) where
     pub reply_played : (telling : Telling) (result : Result (Unit {0}) Halt) → TakesNext hash P names own Is bytes left' c (Ok telling)
-        → IsTold telling written written' last last' result
+        → TellingIsTold telling written written' last last' result
         → PlaysTo P names Is bytes left' (world sent written last) (world sent' written' last') (take_one hash P own c) result
     reply_played telling (Ok u) takes told =
         let one = takes.1 told.0 in

@@ -14,7 +14,7 @@ use Rattle.session_meaning.specs.Messages.{Go, Messages, Reply, Request, message
 use Rattle.session_meaning.specs.Waiting.{some_waits}
 use Rattle.script_play.specs.Halting.{HaltsAt}
 use Rattle.script_play.specs.HaltingInCode.{OnLinkFault, PlaysTo, TakesSoFar}
-use Rattle.script_play.specs.Playing.{FailsToWrite, PlaysAs, SendsRequest, World, done, world}
+use Rattle.script_play.specs.Playing.{FailsAtLine, PlaysAs, SendsRequest, World, done, world}
 use Rattle.script_play.specs.PlayingInCode.{is_sending}
 use Rattle.script_play.specs.Plays.{Deed, Play, Sends, Tells, asked_play, asks, behind, goes_behind, if_goes, lets_run, most_rounds, rests, take_replies, then_play}
 use Rattle.script_play.specs.Prompt.{IsPromptOn}
@@ -122,7 +122,7 @@ module _ (P : Program) (names : ConstructorNames) where
       parted = refl;
       left = told;
       fails = record {
-        fails = line_before t.answer t.client session more (FailsToWrite P names w w1) (fails_before P names w w1)
+        fails = line_before t.answer t.client session more (FailsAtLine P names w w1) (fails_before P names w w1)
             (fails_as P names w w1 (asked_play t session (messages reply_of bytes) rests).deeds (asked_play t session (messages reply_of []) rests).deeds
             (asks_deeds t.answer t.client session (messages reply_of []) (messages reply_of bytes)) fails);
         least = λ before last is. absurd (no_last before last is);

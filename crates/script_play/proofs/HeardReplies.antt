@@ -18,7 +18,7 @@ use Rattle.wire_form.specs.ReadMessages.{ReadsMessage}
 use Rattle.wire_form.specs.declared.message.ReadStop.{ReadStop}
 use Rattle.wire_form.specs.declared.message.ReadStop.TheVariants as stop
 use Rattle.ask_core.proofs.Seeing.{waits_seen}
-use Rattle.ask_core.specs.Replies.{IsAnswer, Takes, called_type, step_taken}
+use Rattle.ask_core.specs.Replies.{IsAnswer, ClientTakes, called_type, step_taken}
 use Rattle.ask_core.specs.Sessions.{IsCalledRole, StandsFor, sessions_waiting}
 use Rattle.ask_core.specs.Turns.{waits_in}
 use Rattle.ask_core.specs.declared.client.AskCore.{AskCore}
@@ -40,7 +40,7 @@ outcome_hears (Ok told) e h f = refl
 outcome_hears (Err fault) e h f = absurd (cc)
 
 module _ (hash : Hash) (P : Program) (own : List ℕ) (m : meant.Client) (r : Reply) (Is : meant.Client → Type 0) (told : Result Told AskFault)
-    (takes : Takes Is P m r (hears hash P own m r) (meant.take_event hash P own m (meant.Forgets (session_of r))) told) where
+    (takes : ClientTakes Is P m r (hears hash P own m r) (meant.take_event hash P own m (meant.Forgets (session_of r))) told) where
   -- the client that the core stands for then
   pub heard_known : (c : meant.Client) × Is c
   heard_known = ((step_taken (hears hash P own m r) (meant.take_event hash P own m (meant.Forgets (session_of r))) told).client, takes.1)

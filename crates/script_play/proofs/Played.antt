@@ -9,7 +9,7 @@ use Rattle.printed_syntax.specs.Literals.{ConstructorNames}
 use Rattle.session_meaning.specs.Client as meant
 use Rattle.session_meaning.specs.Messages.{Messages, Reply, Go, request_bytes}
 use Rattle.session_meaning.specs.MessageFields.{IsRequest}
-use Rattle.session_meaning.specs.ReplyLaws.{IsAsk}
+use Rattle.session_meaning.specs.ReplyLaws.{IsWithinMessages}
 use Rattle.session_meaning.proofs.RequestsFit.{requests_are_sent}
 use Rattle.session_tables.specs.Tables.{rows_of}
 use Rattle.wire_form.specs.MessageViews.{request_meant}
@@ -25,7 +25,7 @@ use Rattle.ask_script.specs.ScriptAnswers.{step_meant}
 use Rattle.ask_script.specs.declared.step.Step.{Step}
 use Rattle.script_play.specs.Plays.{Sends, Play, asked_play, asks, behind, lets_run, most_rounds, play, play_step, rests, take_replies, then_play}
 use Rattle.script_play.specs.Playing.{PlaysAs, SendsRequest, World, done, world}
-use Rattle.script_play.specs.PlayingInCode.{Answers, is_sending}
+use Rattle.script_play.specs.PlayingInCode.{ClientAnswers, is_sending}
 use Rattle.script_play.specs.declared.halt.Halt.{Halt}
 use Rattle.script_play.proofs.Asked.{asks_answers, plays_err, sent_world, unsent_plays}
 use Rattle.lam_outside.proofs.Moved.{append_none}
@@ -124,7 +124,7 @@ module _ (hash : Hash) (P : Program) (names : ConstructorNames) (own : List ℕ)
 
 -- WHAT THE CORE ANSWERS
 -- each request that it gives is a message
-pub asked_fits : (hash : Hash) (P : Program) → IsFormat P.format → (own : List ℕ) → length own ≡ 32 → (c : meant.Client) (e : meant.Event) → IsAsk e
+pub asked_fits : (hash : Hash) (P : Program) → IsFormat P.format → (own : List ℕ) → length own ≡ 32 → (c : meant.Client) (e : meant.Event) → IsWithinMessages e
     → (Is : meant.Client → Type 0) (r : Result AskedRequest AskFault) → Asks Is c (meant.take_event hash P own c e) r → IfOk r (λ request. IsRequest (request_meant request))
 asked_fits hash P format own long c e asks Is (Ok request) h = requests_are_sent hash P format own long c e (request_meant request) asks h.0
 asked_fits hash P format own long c e asks Is (Err fault) h = tt
@@ -132,9 +132,9 @@ asked_fits hash P format own long c e asks Is (Err fault) h = tt
 -- the core behind it, whose code is the same
 module _ {A : Type 0} (old new : AskCore A) (same : new.code ≡ old.code) (c : meant.Client) (t : meant.Taken) (r : Result AskedRequest AskFault)
     (asked : Asks (IsClient (program_of old.code) new.closed (rows_of new.sessions)) c t r) where
-  pub core_answers : Answers (StandsFor new) t r
+  pub core_answers : ClientAnswers (StandsFor new) t r
   core_answers =
-      subst (λ k. Answers (IsClient (program_of k) new.closed (rows_of new.sessions)) t r) (sym same)
+      subst (λ k. ClientAnswers (IsClient (program_of k) new.closed (rows_of new.sessions)) t r) (sym same)
       (asks_answers (IsClient (program_of old.code) new.closed (rows_of new.sessions)) c t r asked)
 
   pub core_stands : StandsForSome new

@@ -11,7 +11,7 @@ use Rattle.session_meaning.specs.Messages.{Go, Messages, NoMore, Then, Reply}
 use Rattle.session_meaning.proofs.FineServer.{all_more}
 use Rattle.session_meaning.specs.Waiting.{some_calls, some_waits}
 use Rattle.ask_script.specs.Scripts.{HasByteArgument, UserStep, Opens, Calls, Goes, Closes}
-use Rattle.script_play.specs.PlayRuns.{Follows, IsOfNone, PlaysTellTruth, begin_with, client_behind, deed_of, heard_by, line_deed, replies_heard}
+use Rattle.script_play.specs.PlayRuns.{DeedsFollow, IsOfNone, PlaysTellTruth, begin_with, client_behind, deed_of, heard_by, line_deed, replies_heard}
 use Rattle.script_play.specs.Plays.{Deed, Sends, Stops, Play, asked_play, asks, behind, ends, goes_behind, hears, if_goes, if_waiting, lets_run, most_rounds, play, play_step, rests, take_replies, then_play, told_of}
 
 -- what holds of all, holds of those behind some
@@ -33,14 +33,14 @@ module _ (hash : Hash) (P : Program) (own : List ℕ) where
   record IsRun (c : Client) (came : Messages Reply) (p : Play) : Type 0 where
     events : List Event
     heard : came ≡ begin_with (replies_heard events) p.coming
-    follows : Follows hash P own c p.deeds events p.client
+    follows : DeedsFollow hash P own c p.deeds events p.client
     bytes : AllByRecursion HasBytes events
 
   -- deeds behind others
-  follows_more : (c : Client) (a b : List Deed) (es fs : List Event) (mid last : Client) → Follows hash P own c a es mid → Follows hash P own mid b fs last
-      → Follows hash P own c (a ++ b) (es ++ fs) last
+  follows_more : (c : Client) (a b : List Deed) (es fs : List Event) (mid last : Client) → DeedsFollow hash P own c a es mid → DeedsFollow hash P own mid b fs last
+      → DeedsFollow hash P own c (a ++ b) (es ++ fs) last
   follows_more c [] b es fs mid last first then =
-      subst (λ es. Follows hash P own c b (es ++ fs) last) (sym first.0) (subst (λ c. Follows hash P own c b fs last) first.1 then)
+      subst (λ es. DeedsFollow hash P own c b (es ++ fs) last) (sym first.0) (subst (λ c. DeedsFollow hash P own c b fs last) first.1 then)
   follows_more c (d ∷ a) b es fs mid last (inl none) then = inl (none.0, follows_more c a b es fs mid last none.1 then)
   follows_more c (d ∷ a) b es fs mid last (inr one) then = inr (
     one.0,

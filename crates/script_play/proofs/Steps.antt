@@ -12,7 +12,7 @@ use Rattle.session_meaning.specs.Messages.{Messages, Reply}
 use Rattle.script_play.specs.DeedLines.{deed_bytes, deed_line}
 use Rattle.script_play.specs.Plays.{Deed, Play, behind, if_goes, rests}
 use Rattle.script_play.specs.Playing.{AreComing, PlaysAs, World, done, world}
-use Rattle.script_play.specs.PlayingInCode.{IsCutShort, IsTelling, IsTold, PlayCause, take_one}
+use Rattle.script_play.specs.PlayingInCode.{IsCutShort, IsTelling, TellingIsTold, PlayCause, take_one}
 use Rattle.script_play.specs.Tellings.{IsNext}
 use Rattle.script_play.specs.declared.halt.Halt.{Halt}
 use Rattle.script_play.specs.declared.halt.Halt.TheVariants.{Ended, LinkFault, WriteFault, NoMemory}
@@ -44,7 +44,7 @@ module _ (P : Program) (names : ConstructorNames) where
         (f ∙ ap (λ (m : Option (List ℕ)). option_or m last) tells.made)
 
     pub told_plays : (Is : meant.Client → Type 0) (left' : Option (List ℕ)) (c : meant.Client) (ms : Messages Reply)
-        → (goes ≡ true → Is c) → (goes ≡ true → AreComing left' ms) → (r : Result (Unit {0}) Halt) → IsTold telling written written' last last' r
+        → (goes ≡ true → Is c) → (goes ≡ true → AreComing left' ms) → (r : Result (Unit {0}) Halt) → TellingIsTold telling written written' last last' r
         → PlaysAs P names Is left' (world sent written last) (world sent written' last') (behind (deed ∷ []) (if_goes goes c ms rests)) r
     told_plays Is left' c ms stands comes (Ok u) h =
         let true_is : goes ≡ true = sym tells.goes_on ∙ h.0 in
@@ -71,7 +71,7 @@ module _ (P : Program) (names : ConstructorNames) where
   -- one reply
   pub next_plays : (hash : Hash) (own : List ℕ) (Is : meant.Client → Type 0) (left' : Option (List ℕ)) (c : meant.Client) (ms : Messages Reply) (telling : Telling)
       → IsNext hash P names own Is left' c ms telling → (sent sent' written written' last last' : Option (List ℕ)) → sent' ≡ sent
-      → (r : Result (Unit {0}) Halt) → IsTold telling written written' last last' r
+      → (r : Result (Unit {0}) Halt) → TellingIsTold telling written written' last last' r
       → PlaysAs P names Is left' (world sent written last) (world sent' written' last') (take_one hash P own c ms) r
   next_plays hash own Is left' c ms telling next sent sent' written written' last last' same r h =
       subst (λ s. PlaysAs P names Is left' (world sent written last) (world s written' last') (take_one hash P own c ms) r) (sym same)

@@ -12,7 +12,7 @@ use Rattle.session_meaning.specs.Client as meant
 use Rattle.session_meaning.specs.Messages.{Messages, NoMore, Then, Reply}
 use Rattle.script_play.specs.DeedLines.{bytes_sent, deed_bytes, deed_line, lines_told}
 use Rattle.script_play.specs.Plays.{Deed, Stops, Play, behind, deed_made, ends, goes_behind, hears, if_goes, if_waiting, made_last, rests, take_replies, then_play, told_of}
-use Rattle.script_play.specs.Playing.{AreComing, BreaksOff, FailsToWrite, PlaysAs, World, done, first_sent, world}
+use Rattle.script_play.specs.Playing.{AreComing, BreaksOff, FailsAtLine, PlaysAs, World, done, first_sent, world}
 use Rattle.script_play.specs.PlayingInCode.{take_one}
 use Rattle.script_play.specs.declared.halt.Halt.{Halt}
 use Rattle.script_play.specs.declared.halt.Halt.TheVariants.{Ended, LinkFault, WriteFault, NoMemory}
@@ -55,7 +55,7 @@ module _ (P : Program) (names : ConstructorNames) where
       last = h.last ∙ ap (λ (x : World). x.last) (front_is h.front);
     }
 
-    abbrev pub fails_behind : (deeds : List Deed) → FailsToWrite P names w1 w2 deeds → FailsToWrite P names w w2 (ds ++ deeds)
+    abbrev pub fails_behind : (deeds : List Deed) → FailsAtLine P names w1 w2 deeds → FailsAtLine P names w w2 (ds ++ deeds)
     fails_behind deeds h = record {
       front = ds ++ h.front;
       next = h.next;
@@ -77,7 +77,7 @@ module _ (P : Program) (names : ConstructorNames) where
 
   module _ (w w2 : World) where
     -- the same deeds, said otherwise
-    abbrev pub fails_as : (deeds deeds' : List Deed) → deeds' ≡ deeds → FailsToWrite P names w w2 deeds → FailsToWrite P names w w2 deeds'
+    abbrev pub fails_as : (deeds deeds' : List Deed) → deeds' ≡ deeds → FailsAtLine P names w w2 deeds → FailsAtLine P names w w2 deeds'
     fails_as deeds deeds' same h = record {
       front = h.front;
       next = h.next;
@@ -113,7 +113,7 @@ module _ (P : Program) (names : ConstructorNames) where
           last = h.last;
         }
 
-    abbrev pub fails_before : (deeds more : List Deed) → FailsToWrite P names w w2 deeds → FailsToWrite P names w w2 (deeds ++ more)
+    abbrev pub fails_before : (deeds more : List Deed) → FailsAtLine P names w w2 deeds → FailsAtLine P names w w2 (deeds ++ more)
     fails_before deeds more h = record {
       front = h.front;
       next = h.next;

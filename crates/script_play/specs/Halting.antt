@@ -5,7 +5,7 @@ use Rattle.core_terms.specs.Terms.{Program}
 use Rattle.printed_syntax.specs.Literals.{ConstructorNames}
 use Rattle.session_meaning.specs.Messages.{AtEnd, IsCut, Messages, NoMore, Reply, Stop, messages, reply_of, request_bytes}
 use Rattle.script_play.specs.DeedLines.{deed_bytes}
-use Rattle.script_play.specs.Playing.{FailsToWrite, World, done}
+use Rattle.script_play.specs.Playing.{FailsAtLine, World, done}
 use Rattle.script_play.specs.Plays.{Deed, Play, Sends, Stops, Tells, behind}
 use Rattle.script_play.specs.declared.halt.Halt.{Halt}
 use Rattle.script_play.specs.declared.halt.Halt.TheVariants.{Ended, LinkFault, WriteFault, NoMemory}
@@ -45,7 +45,7 @@ module _ (P : Program) (names : ConstructorNames) where
 
   -- Of the bytes that were taken all is done that is played of them, up to a line of which a front was written; and fewer bytes would not have done.
   pub record FailsAt (w w' : World) (plays : Messages Reply → Play) (taken : List ℕ) : Type 0 where
-    pub fails : FailsToWrite P names w w' (plays (messages reply_of taken)).deeds
+    pub fails : FailsAtLine P names w w' (plays (messages reply_of taken)).deeds
     pub least : IsLeast plays taken fails.front
 
   -- Where the link or the sink broke a play off, of which these bytes were taken. Of an end that was told and of want of memory nothing is said here.

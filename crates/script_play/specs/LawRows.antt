@@ -10,7 +10,7 @@ use Rattle.session_meaning.specs.Client.{Answer}
 use Rattle.session_meaning.specs.Messages.{AtEnd, IsCut, TooLong, BadMessage, Request, request_bytes}
 use Rattle.lam_outside.specs.Causes.{Rose}
 use Rattle.script_play.specs.Halting.{IsUnmet}
-use Rattle.script_play.specs.Playing.{BreaksOff, FailsToWrite, PlaysAs, SendsRequest, World}
+use Rattle.script_play.specs.Playing.{BreaksOff, FailsAtLine, PlaysAs, SendsRequest, World}
 use Rattle.script_play.specs.PlayingInCode.{IsCutShort, PlayCause}
 use Rattle.script_play.specs.Plays.{Play, Sends, Tells, Stops}
 use Rattle.script_play.specs.declared.halt.Halt.TheVariants.{Ended, LinkFault, WriteFault, NoMemory}
@@ -37,7 +37,7 @@ ended P names Is left w w' p plays = plays.0
 
 pub broken : (P : Program) (names : ConstructorNames) (Is : meant.Client → Type 0) (left : Option (List ℕ)) (w w' : World) (p : Play)
     → (PlaysAs P names {T = Unit {0}} Is left w w' p (Err NoMemory) → BreaksOff P names w w' p.deeds) × (PlaysAs P names {T = Unit {0}} Is left w w' p (Err LinkFault) → BreaksOff P names w w' p.deeds)
-    × (PlaysAs P names {T = Unit {0}} Is left w w' p (Err WriteFault) → FailsToWrite P names w w' p.deeds)
+    × (PlaysAs P names {T = Unit {0}} Is left w w' p (Err WriteFault) → FailsAtLine P names w w' p.deeds)
 broken P names Is left w w' p = ((λ b. b), (λ b. b), (λ f. f))
 
 -- not all of a request was sent where the link failed

@@ -49,11 +49,11 @@ begin_with (reply ∷ replies) ms = Then reply (begin_with replies ms)
 
 module _ (hash : Hash) (P : Program) (own : List ℕ) where
   -- Such deeds come of these events, one by one and in order, but for those that come of none; and this client stands behind them.
-  abbrev pub Follows : Client → List Deed → List Event → Client → Type 0
-  Follows c [] events behind = (events ≡ []) × (behind ≡ c)
-  Follows c (deed ∷ deeds) events behind = (IsOfNone deed × Follows c deeds events behind)
+  abbrev pub DeedsFollow : Client → List Deed → List Event → Client → Type 0
+  DeedsFollow c [] events behind = (events ≡ []) × (behind ≡ c)
+  DeedsFollow c (deed ∷ deeds) events behind = (IsOfNone deed × DeedsFollow c deeds events behind)
       ⊎ ((e : Event) × (later : List Event) × (events ≡ e ∷ later) × (deed ≡ deed_of P c e (take_event hash P own c e).answer)
-      × Follows (take_event hash P own c e).client deeds later behind)
+      × DeedsFollow (take_event hash P own c e).client deeds later behind)
 
   -- the client behind events
   abbrev pub client_behind : Client → List Event → Client
@@ -68,7 +68,7 @@ module _ (hash : Hash) (P : Program) (own : List ℕ) where
     pub events : List Event
     pub heard : came ≡ begin_with (replies_heard events) coming
     pub client : Client
-    pub follows : Follows new_client deeds events client
+    pub follows : DeedsFollow new_client deeds events client
     pub truth : (before behind : List Event) → events ≡ before ++ behind → (session : ℕ) (known : Known)
         → BeginsWith known (find session (client_behind new_client before).sessions) → (v : Value) → IsIdeal P.types P.state v
         → known.state ≡ spelling (projection hash P P.state v) → TrueUpToSplit hash P v (told_calls hash P own session (client_behind new_client before) behind)

@@ -51,7 +51,7 @@ module _ (P : Program) (names : ConstructorNames) where
     pub last : w'.last ≡ (done w front).last
 
   -- The deeds in front are done, and the next one too, but that only a front of its line was written.
-  pub record FailsToWrite (w w' : World) (deeds : List Deed) : Type 0 where
+  pub record FailsAtLine (w w' : World) (deeds : List Deed) : Type 0 where
     pub front : List Deed
     pub next : Deed
     pub left : List Deed
@@ -67,7 +67,7 @@ module _ (P : Program) (names : ConstructorNames) where
   PlaysAs Is left' w w' p (Err Ended) = (p.goes_on ≡ false) × (w' ≡ done w p.deeds)
   PlaysAs Is left' w w' p (Err LinkFault) = BreaksOff w w' p.deeds
   PlaysAs Is left' w w' p (Err NoMemory) = BreaksOff w w' p.deeds
-  PlaysAs Is left' w w' p (Err WriteFault) = FailsToWrite w w' p.deeds
+  PlaysAs Is left' w w' p (Err WriteFault) = FailsAtLine w w' p.deeds
 
 -- a request is sent whole, or a front of it; not all of it where the link failed
 abbrev pub SendsRequest : Request → Option (List ℕ) → Option (List ℕ) → Result (Unit {0}) Halt → Type 0

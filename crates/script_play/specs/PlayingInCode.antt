@@ -33,13 +33,13 @@ module _ (P : Program) (names : ConstructorNames) where
     pub goes_on : telling.goes_on ≡ goes
 
 -- It was told, and the script goes on, or not; or the sink took a front of its line.
-abbrev pub IsTold : Telling → (written written' last last' : Option (List ℕ)) → Result (Unit {0}) Halt → Type 0
-IsTold telling written written' last last' (Ok told) = (telling.goes_on ≡ true) × (written' ≡ append_known written telling.line.items) × (last' ≡ option_or telling.made last)
-IsTold telling written written' last last' (Err Ended) = (telling.goes_on ≡ false) × (written' ≡ append_known written telling.line.items) × (last' ≡ option_or telling.made last)
-IsTold telling written written' last last' (Err WriteFault) =
+abbrev pub TellingIsTold : Telling → (written written' last last' : Option (List ℕ)) → Result (Unit {0}) Halt → Type 0
+TellingIsTold telling written written' last last' (Ok told) = (telling.goes_on ≡ true) × (written' ≡ append_known written telling.line.items) × (last' ≡ option_or telling.made last)
+TellingIsTold telling written written' last last' (Err Ended) = (telling.goes_on ≡ false) × (written' ≡ append_known written telling.line.items) × (last' ≡ option_or telling.made last)
+TellingIsTold telling written written' last last' (Err WriteFault) =
     (count : ℕ) × (written' ≡ append_known written (take count telling.line.items)) × (last' ≡ option_or telling.made last)
-IsTold telling written written' last last' (Err LinkFault) = ⊥
-IsTold telling written written' last last' (Err NoMemory) = ⊥
+TellingIsTold telling written written' last last' (Err LinkFault) = ⊥
+TellingIsTold telling written written' last last' (Err NoMemory) = ⊥
 
 -- the names of the constructors of a program, and the digest of its text
 abbrev pub names_of : Code → ConstructorNames
@@ -62,18 +62,18 @@ take_one hash P own c (Then reply more) =
     behind (told_of hash P own c reply ∷ []) (if_goes (goes_behind (hears hash P own c reply).answer) (hears hash P own c reply).client more rests)
 
 -- The client answers so to what it is asked, and stands so then; for want of memory nothing is said.
-abbrev pub Answers : (meant.Client → Type 0) → meant.Taken → Result AskedRequest AskFault → Type 0
-Answers Is t (Ok request) = (t.answer ≡ meant.Sends (request_meant request)) × Is t.client
-Answers Is t (Err NoAskMemory) = ⊤
-Answers Is t (Err (BadState offset)) = (t.answer ≡ fault_told (BadState offset)) × Is t.client
-Answers Is t (Err (BadArgument offset)) = (t.answer ≡ fault_told (BadArgument offset)) × Is t.client
-Answers Is t (Err OutOfTurn) = (t.answer ≡ fault_told OutOfTurn) × Is t.client
-Answers Is t (Err (Rejected session cause)) = (t.answer ≡ fault_told (Rejected session cause)) × Is t.client
-Answers Is t (Err (Stranger session)) = (t.answer ≡ fault_told (Stranger session)) × Is t.client
-Answers Is t (Err (WrongReply kind)) = (t.answer ≡ fault_told (WrongReply kind)) × Is t.client
-Answers Is t (Err (Failed cause)) = (t.answer ≡ fault_told (Failed cause)) × Is t.client
-Answers Is t (Err (Broken kind)) = (t.answer ≡ fault_told (Broken kind)) × Is t.client
-Answers Is t (Err (Closed cause)) = (t.answer ≡ fault_told (Closed cause)) × Is t.client
+abbrev pub ClientAnswers : (meant.Client → Type 0) → meant.Taken → Result AskedRequest AskFault → Type 0
+ClientAnswers Is t (Ok request) = (t.answer ≡ meant.Sends (request_meant request)) × Is t.client
+ClientAnswers Is t (Err NoAskMemory) = ⊤
+ClientAnswers Is t (Err (BadState offset)) = (t.answer ≡ fault_told (BadState offset)) × Is t.client
+ClientAnswers Is t (Err (BadArgument offset)) = (t.answer ≡ fault_told (BadArgument offset)) × Is t.client
+ClientAnswers Is t (Err OutOfTurn) = (t.answer ≡ fault_told OutOfTurn) × Is t.client
+ClientAnswers Is t (Err (Rejected session cause)) = (t.answer ≡ fault_told (Rejected session cause)) × Is t.client
+ClientAnswers Is t (Err (Stranger session)) = (t.answer ≡ fault_told (Stranger session)) × Is t.client
+ClientAnswers Is t (Err (WrongReply kind)) = (t.answer ≡ fault_told (WrongReply kind)) × Is t.client
+ClientAnswers Is t (Err (Failed cause)) = (t.answer ≡ fault_told (Failed cause)) × Is t.client
+ClientAnswers Is t (Err (Broken kind)) = (t.answer ≡ fault_told (Broken kind)) × Is t.client
+ClientAnswers Is t (Err (Closed cause)) = (t.answer ≡ fault_told (Closed cause)) × Is t.client
 
 -- memory wasn't wanting for it
 abbrev pub IsAnswered : Result AskedRequest AskFault → Type 0

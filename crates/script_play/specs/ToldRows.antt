@@ -47,9 +47,9 @@ use Rattle.ask_core.specs.declared.told.Told.TheVariants.{Ended as TellsEnd, Out
 use Rattle.ask_script.specs.Scripts.{Opens}
 use Rattle.script_play.specs.DeedLines.{answer_line, deed_bytes, deed_line, outcome_line}
 use Rattle.script_play.specs.PlayRows.{no_names, played, state}
-use Rattle.script_play.specs.PlayRuns.{Follows, TellsTruth, begin_with, client_behind, replies_heard}
-use Rattle.script_play.specs.Playing.{AreComing, BreaksOff, FailsToWrite, PlaysAs, SendsRequest, World, world}
-use Rattle.script_play.specs.PlayingInCode.{Answers, IsAnswered, IsTelling, IsTold, PlayCause, is_sending, take_one, waits_for}
+use Rattle.script_play.specs.PlayRuns.{DeedsFollow, TellsTruth, begin_with, client_behind, replies_heard}
+use Rattle.script_play.specs.Playing.{AreComing, BreaksOff, FailsAtLine, PlaysAs, SendsRequest, World, world}
+use Rattle.script_play.specs.PlayingInCode.{ClientAnswers, IsAnswered, IsTelling, TellingIsTold, PlayCause, is_sending, take_one, waits_for}
 use Rattle.script_play.specs.Plays.{Deed, Play, Sends, Tells, behind, deed_made, if_goes, rests}
 use Rattle.script_play.specs.Tellings.{IsNext, IsStop, IsStopLine, IsStopTold, OfAnswer, called_updates, is_outcome, is_update, makes, makes_state, state_if, told_done, told_goes}
 use Rattle.script_play.specs.declared.halt.Halt.TheVariants.{Ended, LinkFault, WriteFault, NoMemory}
@@ -103,7 +103,7 @@ stranger_is_played = (refl, refl)
 pub broken_off : BreaksOff bool_program no_names start (world (Some (take 3 hello)) (Some []) None) (opened_by 1).deeds
 broken_off = record { front = []; left = (opened_by 1).deeds; parted = refl; count = 3; sent = refl; written = refl; last = refl }
 
-pub written_in_part : FailsToWrite bool_program no_names start (world (Some hello) (Some (codes "1 ")) None) (opened_by 1).deeds
+pub written_in_part : FailsAtLine bool_program no_names start (world (Some hello) (Some (codes "1 ")) None) (opened_by 1).deeds
 unfolding digits
 written_in_part = record {
   front = Sends (Hello 1 text_digest 1 state) ∷ [];
@@ -133,20 +133,20 @@ answered r = (tt, tt, (λ a. a))
 
 -- The client answers as it is asked to, and stands so.
 module _ (Is : Client → Type 0) (t : Taken) where
-  pub sends : (r : AskedRequest) → Answers Is t (Ok r) → (t.answer ≡ client.Sends (request_meant r)) × Is t.client
+  pub sends : (r : AskedRequest) → ClientAnswers Is t (Ok r) → (t.answer ≡ client.Sends (request_meant r)) × Is t.client
   sends r a = a
 
-  pub of_faults : (session offset kind cause : ℕ) → (Answers Is t (Err (BadState offset)) → (t.answer ≡ client.StateFault offset) × Is t.client)
-      × (Answers Is t (Err (BadArgument offset)) → (t.answer ≡ client.ArgumentFault offset) × Is t.client) × (Answers Is t (Err OutOfTurn) → (t.answer ≡ client.OutOfTurn) × Is t.client)
-      × (Answers Is t (Err (Stranger session)) → (t.answer ≡ client.IsStranger session) × Is t.client) × (Answers Is t (Err (WrongReply kind)) → (t.answer ≡ client.IsWrongReply kind) × Is t.client)
-      × (Answers Is t (Err (Broken kind)) → (t.answer ≡ client.IsBroken kind) × Is t.client) × (Answers Is t (Err (Closed cause)) → (t.answer ≡ client.IsClosed cause) × Is t.client)
+  pub of_faults : (session offset kind cause : ℕ) → (ClientAnswers Is t (Err (BadState offset)) → (t.answer ≡ client.StateFault offset) × Is t.client)
+      × (ClientAnswers Is t (Err (BadArgument offset)) → (t.answer ≡ client.ArgumentFault offset) × Is t.client) × (ClientAnswers Is t (Err OutOfTurn) → (t.answer ≡ client.OutOfTurn) × Is t.client)
+      × (ClientAnswers Is t (Err (Stranger session)) → (t.answer ≡ client.IsStranger session) × Is t.client) × (ClientAnswers Is t (Err (WrongReply kind)) → (t.answer ≡ client.IsWrongReply kind) × Is t.client)
+      × (ClientAnswers Is t (Err (Broken kind)) → (t.answer ≡ client.IsBroken kind) × Is t.client) × (ClientAnswers Is t (Err (Closed cause)) → (t.answer ≡ client.IsClosed cause) × Is t.client)
   of_faults session offset kind cause = ((λ a. a), (λ a. a), (λ a. a), (λ a. a), (λ a. a), (λ a. a), (λ a. a))
 
-  pub of_rejections : (session : ℕ) (cause : Cause) → (Answers Is t (Err (Rejected session cause)) → (t.answer ≡ client.IsRejected session (cause_told cause)) × Is t.client)
-      × (Answers Is t (Err (Failed cause)) → (t.answer ≡ client.HasFailed (cause_told cause)) × Is t.client)
+  pub of_rejections : (session : ℕ) (cause : Cause) → (ClientAnswers Is t (Err (Rejected session cause)) → (t.answer ≡ client.IsRejected session (cause_told cause)) × Is t.client)
+      × (ClientAnswers Is t (Err (Failed cause)) → (t.answer ≡ client.HasFailed (cause_told cause)) × Is t.client)
   of_rejections session cause = ((λ a. a), (λ a. a))
 
-  pub memory_says_nothing : Answers Is t (Err NoAskMemory)
+  pub memory_says_nothing : ClientAnswers Is t (Err NoAskMemory)
   memory_says_nothing = tt
 
 -- a session that greets is waited for, and no other
@@ -159,16 +159,16 @@ waiting = (refl, refl, refl, refl)
 -- WHAT IS TOLD
 -- the script goes on behind it, or has ended; or a front of its line was written
 module _ (t : Telling) (written last : Option (List ℕ)) where
-  pub goes_on : t.goes_on ≡ true → IsTold t written (append_known written t.line.items) last (option_or t.made last) (Ok tt)
+  pub goes_on : t.goes_on ≡ true → TellingIsTold t written (append_known written t.line.items) last (option_or t.made last) (Ok tt)
   goes_on goes = (goes, refl, refl)
 
-  pub ends : t.goes_on ≡ false → IsTold t written (append_known written t.line.items) last (option_or t.made last) (Err Ended)
+  pub ends : t.goes_on ≡ false → TellingIsTold t written (append_known written t.line.items) last (option_or t.made last) (Err Ended)
   ends goes = (goes, refl, refl)
 
-  pub told_in_part : (n : ℕ) → IsTold t written (append_known written (take n t.line.items)) last (option_or t.made last) (Err WriteFault)
+  pub told_in_part : (n : ℕ) → TellingIsTold t written (append_known written (take n t.line.items)) last (option_or t.made last) (Err WriteFault)
   told_in_part n = (n, refl, refl)
 
-  pub no_other_end : (IsTold t written written last last (Err LinkFault) → ⊥) × (IsTold t written written last last (Err NoMemory) → ⊥)
+  pub no_other_end : (TellingIsTold t written written last last (Err LinkFault) → ⊥) × (TellingIsTold t written written last last (Err NoMemory) → ⊥)
   no_other_end = ((λ t. t), (λ t. t))
 
 -- a telling has the deed's line and the state that it makes, and goes on as it is said
@@ -246,15 +246,15 @@ pub stands_behind : client_behind toy bool_program text_digest new_client (Hello
 stands_behind = refl
 
 -- each deed comes of its event, and GO of none
-pub opening_follows : Follows toy bool_program text_digest new_client (opened_by 1).deeds (Hellos 1 1 state ∷ Hears (Welcome 1) ∷ []) (opened_by 1).client
+pub opening_follows : DeedsFollow toy bool_program text_digest new_client (opened_by 1).deeds (Hellos 1 1 state ∷ Hears (Welcome 1) ∷ []) (opened_by 1).client
 opening_follows = inr (Hellos 1 1 state, Hears (Welcome 1) ∷ [], refl, refl, inr (Hears (Welcome 1), [], refl, refl, (refl, refl)))
 
-pub go_follows : Follows toy bool_program text_digest new_client (Sends (Go 1) ∷ []) [] new_client
+pub go_follows : DeedsFollow toy bool_program text_digest new_client (Sends (Go 1) ∷ []) [] new_client
 go_follows = inl (tt, (refl, refl))
 
 -- the events hear the replies that came
 pub told_of_what_came : (hash : Hash) (P : Program) (own : List ℕ) (came coming : Messages Reply) (deeds : List Deed) (t : TellsTruth hash P own came coming deeds)
-    → (came ≡ begin_with (replies_heard t.events) coming) × Follows hash P own new_client deeds t.events t.client
+    → (came ≡ begin_with (replies_heard t.events) coming) × DeedsFollow hash P own new_client deeds t.events t.client
 told_of_what_came hash P own came coming deeds t = (t.heard, t.follows)
 
 -- and from where a session begins at an ideal state's projection on, what is told is true up to a split

@@ -13,7 +13,7 @@ ghost use Rattle.script_play.specs.Halting.{HaltsAt};
 ghost use Rattle.script_play.specs.HaltingInCode.{OnLinkFault};
 ghost use Rattle.script_play.specs.Plays.{Tells, asked_play, goes_behind, rests};
 ghost use Rattle.script_play.specs.Playing.{AreComing, PlaysAs, SendsRequest, world};
-ghost use Rattle.script_play.specs.PlayingInCode.{Answers, IsAnswered, IsTelling, PlayCause, is_sending};
+ghost use Rattle.script_play.specs.PlayingInCode.{ClientAnswers, IsAnswered, IsTelling, PlayCause, is_sending};
 
 use crate::halt::Halt;
 use crate::hearing::goes_behind;
@@ -35,14 +35,14 @@ pub fn ask<L: Link, O: Sink>(
     last: &mut Option<Spelling>,
 ) -> Result<bool, Halt>
     requires message { IfOk answered (λ request. IsRequest (request_meant request)) }
-    ensures plays { (P : tree.Program) (names : ConstructorNames) (t : Taken) (ms : Messages Reply) → Answers (λ c. Unit {0}) t answered → AreComing (L.left link.old) ms
+    ensures plays { (P : tree.Program) (names : ConstructorNames) (t : Taken) (ms : Messages Reply) → ClientAnswers (λ c. Unit {0}) t answered → AreComing (L.left link.old) ms
         → PlaysAs P names (λ c. c ≡ t.client) (L.left link.new)
         (world (L.sent link.old) (O.written out.old) last.old) (world (L.sent link.new) (O.written out.new) last.new)
         (asked_play t session ms rests) result }
-    ensures halts { (P : tree.Program) (names : ConstructorNames) (t : Taken) (ms : Messages Reply) → Answers (λ c. Unit {0}) t answered
+    ensures halts { (P : tree.Program) (names : ConstructorNames) (t : Taken) (ms : Messages Reply) → ClientAnswers (λ c. Unit {0}) t answered
         → OnLinkFault result (HaltsAt P names (world (L.sent link.old) (O.written out.old) last.old) (world (L.sent link.new) (O.written out.new) last.new)
         (asked_play t session ms rests).deeds) }
-    ensures sends { IfOk result (λ sent. (t : Taken) → Answers (λ c. Unit {0}) t answered → sent ≡ is_sending t.answer) }
+    ensures sends { IfOk result (λ sent. (t : Taken) → ClientAnswers (λ c. Unit {0}) t answered → sent ≡ is_sending t.answer) }
     ensures memory { IfOk result (λ sent. IsAnswered answered) }
     ensures reads { L.reads link.new ≡ L.reads link.old }
     ensures given { L.given link.new ≡ L.given link.old }

@@ -15,7 +15,7 @@ ghost use Rattle.ask_script.specs.Scripts.{Fits};
 ghost use Rattle.script_play.specs.HaltingInCode.{PlaysTo};
 ghost use Rattle.script_play.specs.Plays.{asked_play, lets_run, play, play_step, take_replies};
 ghost use Rattle.script_play.specs.Playing.{AreComing, PlaysAs, world};
-ghost use Rattle.script_play.specs.PlayingInCode.{Answers, PlayCause, names_of, own_of};
+ghost use Rattle.script_play.specs.PlayingInCode.{ClientAnswers, PlayCause, names_of, own_of};
 ghost use Rattle.script_play.specs.Prompt.{IsPromptOn};
 
 use crate::asking::{ask, send};
@@ -138,15 +138,15 @@ fn ask_and_wait<H: Hash32, L: Link, O: Sink>(
     requires known { StandsForSome core.old }
     requires message { IfOk answered (λ request. IsRequest (request_meant request)) }
     ensures plays { let code = core.old.code in let P = program_of code in
-        (t : Taken) (ms : Messages Reply) → Answers (StandsFor core.old) t answered → AreComing (L.left link.old) ms
+        (t : Taken) (ms : Messages Reply) → ClientAnswers (StandsFor core.old) t answered → AreComing (L.left link.old) ms
         → PlaysAs P (names_of code) (StandsFor core.new) (L.left link.new)
         (world (L.sent link.old) (O.written out.old) last.old) (world (L.sent link.new) (O.written out.new) last.new)
         (asked_play t session ms (take_replies H.hash P (own_of code) (λ c. waits c session))) result }
-    ensures halts { let code = core.old.code in (t : Taken) (bytes : List ℕ) → Answers (StandsFor core.old) t answered → L.left link.old ≡ Some bytes
+    ensures halts { let code = core.old.code in (t : Taken) (bytes : List ℕ) → ClientAnswers (StandsFor core.old) t answered → L.left link.old ≡ Some bytes
         → PlaysTo (program_of code) (names_of code) (StandsFor core.new) bytes (L.left link.new)
         (world (L.sent link.old) (O.written out.old) last.old) (world (L.sent link.new) (O.written out.new) last.new)
         (λ ms. asked_play t session ms (take_replies H.hash (program_of code) (own_of code) (λ c. waits c session))) result }
-    ensures prompt { let code = core.old.code in (t : Taken) (bytes : List ℕ) → Answers (StandsFor core.old) t answered → L.left link.old ≡ Some bytes
+    ensures prompt { let code = core.old.code in (t : Taken) (bytes : List ℕ) → ClientAnswers (StandsFor core.old) t answered → L.left link.old ≡ Some bytes
         → AtEachRead (IsPromptOn bytes (L.sent link.old) (λ ms. asked_play t session ms (take_replies H.hash (program_of code) (own_of code) (λ c. waits c session))))
         (L.reads link.old) (L.reads link.new) }
     ensures known { StandsForSome core.new }

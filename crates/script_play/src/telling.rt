@@ -15,11 +15,11 @@ pub struct Telling {
     pub goes_on: bool,
 }
 
-ghost use Rattle.script_play.specs.PlayingInCode.{IsTold, PlayCause};
+ghost use Rattle.script_play.specs.PlayingInCode.{TellingIsTold, PlayCause};
 
 /// Tells: the state that was made is the one told last, from before the line is written on.
 pub fn tell<O: Sink>(out: &mut O, last: &mut Option<Spelling>, telling: Telling) -> Result<(), Halt>
-    ensures told { IsTold telling (O.written out.old) (O.written out.new) last.old last.new result }
+    ensures told { TellingIsTold telling (O.written out.old) (O.written out.new) last.old last.new result }
     ensures cause { (link : ℕ) → PlayCause link link (O.faults out.old) (O.faults out.new) result }
 {
     let Telling {

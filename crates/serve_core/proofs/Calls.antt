@@ -8,7 +8,7 @@ use Rattle.core_terms.specs.Terms.{Program}
 use Rattle.core_terms.specs.Values.{Value}
 use Rattle.core_terms.proofs.ReadOnly.{read_spells}
 use Rattle.code_gen.specs.declared.code.Code.{Code}
-use Rattle.ideal_meaning.specs.Headline.{call_of}
+use Rattle.ideal_meaning.specs.Headline.{call_values}
 use Rattle.mode_vm.specs.Meanings.{program_of}
 use Rattle.session_meaning.specs.Calls.{RoleCall, reads_state, role_in}
 use Rattle.session_meaning.specs.Causes as cause
@@ -26,10 +26,6 @@ use Rattle.session_turns.specs.declared.session.Session.{Session}
 use Rattle.session_turns.specs.declared.session.SessionCall.{SessionCall}
 use Rattle.value_store.specs.Nodes.{Node}
 use Rattle.serve_core.specs.Requests.{IsAdmitted}
-
-pub are_bytes : (bytes : List ℕ) → ((i : ℕ) → get_or bytes i 0 < 256) → AreBytes bytes
-are_bytes [] h = tt
-are_bytes (b ∷ bytes) h = (h 0, are_bytes bytes (λ i. h (suc i)))
 
 module _ (hash : Hash) (P : Program) (own : List ℕ) (ending : ℕ → ℕ) where
   abbrev session_test : Option meant.Session → ℕ → ℕ → ℕ → List ℕ → Result meant.Admitted cause.Refusal
@@ -87,12 +83,12 @@ module _ (hash : Hash) (code : Code) (slice : ℕ) {A : Type 0} (nodes : List No
 
   -- a session in which a call has begun to run
   pub begins : (versions : List Value) (old : Session A) (new : SessionCall A) (s : meant.Session) (call : RoleCall) → IsSession hash code slice nodes versions old s
-      → IsRunning hash code nodes new.run (role_in (program_of code) call.role).function (call_of (meant.version_at versions s.version) call.argument) new.call.fuel 0
+      → IsRunning hash code nodes new.run (role_in (program_of code) call.role).function (call_values (meant.version_at versions s.version) call.argument) new.call.fuel 0
       → new.run.last ≡ Ok None → IsCommit new.call call
       → IsSession hash code slice nodes versions (record { version = old.version; ring = old.ring; running = Some new }) (meant.with_run s call 0)
   begins versions old new s call h runs waits is =
       let f = (role_in (program_of code) call.role).function in
-      let vs = call_of (meant.version_at versions s.version) call.argument in
+      let vs = call_values (meant.version_at versions s.version) call.argument in
       record {
         at_version = h.at_version;
         there = h.there;

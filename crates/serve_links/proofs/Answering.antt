@@ -16,14 +16,14 @@ use Rattle.link_ends.specs.declared.halt.Halt.{Halt}
 use Rattle.link_ends.specs.declared.halt.Halt.TheVariants as halt
 use Rattle.serve_links.specs.Connections.{bytes_of}
 use Rattle.serve_links.specs.HistoriesInCode.{HasServed, HasSameCode, own_digest, program_served, step_of, turns_of}
-use Rattle.serve_links.specs.Messages.{Answers, AnswersPart, BreaksOff, ComesNext, CountsMessage, HearsNext, IsStoppedAt, ServesMessage, StaysServing, asks}
+use Rattle.serve_links.specs.Messages.{ServerAnswers, AnswersPart, BreaksOff, ComesNext, CountsMessage, HearsNext, IsStoppedAt, ServesMessage, StaysServing, asks}
 use Rattle.serve_links.proofs.Broken.{first_cut, first_part, first_stopped, none_cut, none_heard, over_at}
 use Rattle.serve_links.proofs.Serving.{open_counts, served_more}
 
 module _ (hash : Hash) (Kept : (told made : List RoleCall) → Type 0) {A G : Type 0} (old new : ServeCore A G) (server : Server) (sent sent' : Option (List ℕ)) where
   -- a message was read and answered
   message_served : (bytes : List ℕ) (left' : Option (List ℕ)) (m : meant.Heard) (closing : Bool) → ComesNext bytes left' m
-      → Answers hash Kept old new server sent sent' m (Ok closing) → ServesMessage hash Kept old new server sent sent' bytes left' (Ok (asks m && not closing))
+      → ServerAnswers hash Kept old new server sent sent' m (Ok closing) → ServesMessage hash Kept old new server sent sent' bytes left' (Ok (asks m && not closing))
   message_served bytes left' (Hears r) true next answers = record {
     taken = next.0;
     takes = next.1;
@@ -78,13 +78,13 @@ module _ (hash : Hash) (Kept : (told made : List RoleCall) → Type 0) {A G : Ty
   }
 
   message_broken : (bytes : List ℕ) (left' : Option (List ℕ)) (m : meant.Heard) (stop : Halt) (result : Result Bool Halt) → IsErrAnd result (λ e. e ≡ stop)
-      → ComesNext bytes left' m → Answers hash Kept old new server sent sent' m (Err stop) → ServesMessage hash Kept old new server sent sent' bytes left' result
+      → ComesNext bytes left' m → ServerAnswers hash Kept old new server sent sent' m (Err stop) → ServesMessage hash Kept old new server sent sent' bytes left' result
   unfolding part_served
   message_broken bytes left' m stop (Ok on) handed next answers = absurd handed
   message_broken bytes left' m stop (Err e) handed next answers =
       let P : Halt → Type 0 = λ e. ServesMessage hash Kept old new server sent sent' bytes left' (Err e) in subst P (sym handed) (by stop answers)
     where
-      by : (stop : Halt) → Answers hash Kept old new server sent sent' m (Err stop) → ServesMessage hash Kept old new server sent sent' bytes left' (Err stop)
+      by : (stop : Halt) → ServerAnswers hash Kept old new server sent sent' m (Err stop) → ServesMessage hash Kept old new server sent sent' bytes left' (Err stop)
       by halt.LinkFault part = part_served bytes left' m next part
       by halt.Stopped (inl all) =
           let broken = part_served bytes left' m next all.0 in
@@ -102,10 +102,10 @@ module _ (hash : Hash) (Kept : (told made : List RoleCall) → Type 0) {A G : Ty
 -- What a message comes to, by the error.
 module _ (hash : Hash) (Kept : (told made : List RoleCall) → Type 0) {A G : Type 0} (old new : ServeCore A G) (server : Server) (sent sent' : Option (List ℕ)) (m : meant.Heard) where
   abbrev Comes : Halt → Type 0
-  Comes stop = Answers hash Kept old new server sent sent' m (Err stop)
+  Comes stop = ServerAnswers hash Kept old new server sent sent' m (Err stop)
 
   -- the server was stopped at it
-  pub stops : (result : Result Bool Halt) → IsErrAnd result (λ e. e ≡ halt.Stopped) → IsStoppedAt hash Kept old new server sent sent' m → Answers hash Kept old new server sent sent' m result
+  pub stops : (result : Result Bool Halt) → IsErrAnd result (λ e. e ≡ halt.Stopped) → IsStoppedAt hash Kept old new server sent sent' m → ServerAnswers hash Kept old new server sent sent' m result
   stops (Ok closing) handed stopped = absurd handed
   stops (Err e) handed stopped = subst Comes (sym handed) (inr stopped)
 
@@ -113,7 +113,7 @@ module _ (hash : Hash) (Kept : (told made : List RoleCall) → Type 0) {A G : Ty
   pub part_sent : (stop : WriteStop) (result : Result Bool Halt) → IsErrAnd result (λ e. e ≡ halt_of stop)
       → (let step = step_of hash old server m in
       ((n : ℕ) × (n < length (bytes_of step.replies)) × (sent' ≡ append_known sent (take n (bytes_of step.replies))))
-      → Serves hash new step.server → Kept step.server.shared.commits step.server.shared.commits → Answers hash Kept old new server sent sent' m result)
+      → Serves hash new step.server → Kept step.server.shared.commits step.server.shared.commits → ServerAnswers hash Kept old new server sent sent' m result)
   part_sent stop (Ok closing) handed part serves kept = absurd handed
   part_sent stop (Err e) handed part serves kept = subst Comes (sym handed) (by stop)
     where
@@ -124,17 +124,17 @@ module _ (hash : Hash) (Kept : (told made : List RoleCall) → Type 0) {A G : Ty
 -- The link told the same before the answer, and the message was read of it: the message was served, or the connection broke off.
 module _ (hash : Hash) (Kept : (told made : List RoleCall) → Type 0) {A G : Type 0} (old new : ServeCore A G) (server : Server) (sent0 sent1 sent2 : Option (List ℕ)) (bytes : List ℕ) (left1 left2 : Option (List ℕ)) (m : meant.Heard) where
   pub served_on : (closing b on : Bool) → on ≡ b && not closing → sent1 ≡ sent0 → left2 ≡ left1 → ComesNext bytes left1 m → asks m ≡ b
-      → Answers hash Kept old new server sent1 sent2 m (Ok closing) → ServesMessage hash Kept old new server sent0 sent2 bytes left2 (Ok on)
+      → ServerAnswers hash Kept old new server sent1 sent2 m (Ok closing) → ServesMessage hash Kept old new server sent0 sent2 bytes left2 (Ok on)
   served_on closing b on test same left next is answers =
-      let OfSent : Option (List ℕ) → Type 0 = λ w. Answers hash Kept old new server w sent2 m (Ok closing) in
+      let OfSent : Option (List ℕ) → Type 0 = λ w. ServerAnswers hash Kept old new server w sent2 m (Ok closing) in
       let OfLeft : Option (List ℕ) → Type 0 = λ w. ComesNext bytes w m in
       let OfOn : Bool → Type 0 = λ on. ServesMessage hash Kept old new server sent0 sent2 bytes left2 (Ok on) in
       subst OfOn (ap (λ b. b && not closing) is ∙ sym test) (message_served hash Kept old new server sent0 sent2 bytes left2 m closing (subst OfLeft (sym left) next) (subst OfSent same answers))
 
   pub broken_on : (stop : Halt) (result : Result Bool Halt) → IsErrAnd result (λ e. e ≡ stop) → sent1 ≡ sent0 → left2 ≡ left1 → ComesNext bytes left1 m
-      → Answers hash Kept old new server sent1 sent2 m (Err stop) → ServesMessage hash Kept old new server sent0 sent2 bytes left2 result
+      → ServerAnswers hash Kept old new server sent1 sent2 m (Err stop) → ServesMessage hash Kept old new server sent0 sent2 bytes left2 result
   broken_on stop result handed same left next answers =
-      let OfSent : Option (List ℕ) → Type 0 = λ w. Answers hash Kept old new server w sent2 m (Err stop) in
+      let OfSent : Option (List ℕ) → Type 0 = λ w. ServerAnswers hash Kept old new server w sent2 m (Err stop) in
       let OfLeft : Option (List ℕ) → Type 0 = λ w. ComesNext bytes w m in
       message_broken hash Kept old new server sent0 sent2 bytes left2 m stop result handed (subst OfLeft (sym left) next) (subst OfSent same answers)
 
@@ -170,21 +170,21 @@ unread hash Kept core server sent sent' bytes left' stop (Err e) handed same hea
 
 -- What is left of the core is a server with a history, unless it was stopped.
 module _ (hash : Hash) (Kept : (told made : List RoleCall) → Type 0) {A G : Type 0} (old new : ServeCore A G) (same : HasSameCode old new) (h : HasServed hash old) (sent sent' : Option (List ℕ)) (m : meant.Heard) (is : IsHeard m) where
-  pub stays_open : (closing : Bool) → Answers hash Kept old new h.server sent sent' m (Ok closing) → HasServed hash new
+  pub stays_open : (closing : Bool) → ServerAnswers hash Kept old new h.server sent sent' m (Ok closing) → HasServed hash new
   stays_open closing answers = served_more hash old new same h.server m h.history is answers.2
 
-  pub stays_halted : {T : Type 0} (stop : Halt) (result : Result T Halt) → IsErrAnd result (λ e. e ≡ stop) → Answers hash Kept old new h.server sent sent' m (Err stop)
+  pub stays_halted : {T : Type 0} (stop : Halt) (result : Result T Halt) → IsErrAnd result (λ e. e ≡ stop) → ServerAnswers hash Kept old new h.server sent sent' m (Err stop)
       → StaysServing hash new result
   stays_halted stop (Ok on) handed answers = absurd handed
   stays_halted {T = T} stop (Err e) handed answers =
       let P : Halt → Type 0 = λ e. StaysServing {T = T} hash new (Err e) in subst P (sym handed) (by stop answers)
     where
-      by : (stop : Halt) → Answers hash Kept old new h.server sent sent' m (Err stop) → StaysServing {T = T} hash new (Err stop)
+      by : (stop : Halt) → ServerAnswers hash Kept old new h.server sent sent' m (Err stop) → StaysServing {T = T} hash new (Err stop)
       by halt.LinkFault part = served_more hash old new same h.server m h.history is part.3
       by halt.Stopped (inl all) = ((step_of hash old h.server m).server, all.0.3)
       by halt.Stopped (inr stopped) = (stopped.1.0, stopped.1.2)
 
-  pub counts : (closing b on : Bool) → on ≡ b && not closing → asks m ≡ b → Answers hash Kept old new h.server sent sent' m (Ok closing) → CountsMessage old.heard new.heard (Ok on)
+  pub counts : (closing b on : Bool) → on ≡ b && not closing → asks m ≡ b → ServerAnswers hash Kept old new h.server sent sent' m (Ok closing) → CountsMessage old.heard new.heard (Ok on)
   counts closing b on test asked answers =
       let OfOn : Bool → Type 0 = λ on. CountsMessage old.heard new.heard (Ok on) in subst OfOn (ap (λ b. b && not closing) asked ∙ sym test) (by m closing answers.1 answers.2)
     where

@@ -17,7 +17,7 @@ use Rattle.link_ends.specs.declared.halt.Halt.TheVariants as halt
 use Rattle.serve_links.specs.Connections.{IsServed, bytes_of, left_by_end}
 use Rattle.serve_links.specs.Ends.{IsBroken, StaysServer}
 use Rattle.serve_links.specs.HistoriesInCode.{HasSameCode, HasServed, own_digest, program_served, step_of, turns_of}
-use Rattle.serve_links.specs.Messages.{BreaksOff, Ends, GoesOn, ServesMessage, StaysServing}
+use Rattle.serve_links.specs.Messages.{BreaksOff, Ends, ServingGoesOn, ServesMessage, StaysServing}
 use Rattle.serve_links.proofs.Broken.{goes_on}
 use Rattle.serve_links.proofs.Prompting.{prompt_now, replied_on}
 use Rattle.lam_outside.specs.Moments.{Moment}
@@ -102,7 +102,7 @@ module _ (hash : Hash) (Kept : (told made : List RoleCall) → Type 0) {A G : Ty
       sent_behind more sends = sends ∙ ap (λ w. append_known w more) so_far.sends ∙ append_twice sent so_far.out more
 
       -- one message more
-      pub one_more : (Also : (told made : List RoleCall) → Type 0) (new : ServeCore A G) (left'' : Option (List ℕ)) → GoesOn hash Also now new so_far.current sent' sent'' so_far.rest left''
+      pub one_more : (Also : (told made : List RoleCall) → Type 0) (new : ServeCore A G) (left'' : Option (List ℕ)) → ServingGoesOn hash Also now new so_far.current sent' sent'' so_far.rest left''
           → IsSoFar old new server sent sent'' bytes left''
       one_more Also new left'' on = record {
         out = so_far.out ++ bytes_of (step_of hash now so_far.current (Hears on.request)).replies;

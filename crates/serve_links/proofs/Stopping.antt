@@ -11,7 +11,7 @@ use Rattle.wire_form.specs.MessageViews.{request_meant}
 use Rattle.wire_form.specs.ReadMessages.{ReadsMessage, StopsShort}
 use Rattle.wire_form.specs.declared.message.ReadStop.{ReadStop}
 use Rattle.wire_form.specs.declared.message.ReadStop.TheVariants.{BadMessage, TooLong, End, Cut, LinkFault, NoMemory}
-use Rattle.link_ends.specs.MoreLinks.{Takes}
+use Rattle.link_ends.specs.MoreLinks.{TakesBytes}
 use Rattle.link_ends.proofs.Taken.{took, took_all}
 use Rattle.serve_links.specs.Connections.{heard_in, heard_on}
 use Rattle.serve_links.specs.Messages.{ComesNext}
@@ -58,7 +58,7 @@ module _ (bytes : List ℕ) (left' : Option (List ℕ)) (stop : ReadStop) where
       (bytes, took_all bytes left' read.1, (meant.IsCut, none, none, refl))
 
   -- the link failed
-  pub fault_next : stop ≡ LinkFault → Reads stop → (taken : List ℕ) × Takes bytes taken left' × (heard_in taken ≡ HearsEnd ∷ [])
+  pub fault_next : stop ≡ LinkFault → Reads stop → (taken : List ℕ) × TakesBytes bytes taken left' × (heard_in taken ≡ HearsEnd ∷ [])
   fault_next is reads =
       let read = subst Reads is reads in
       (take read.0 bytes, took read.0 bytes left' read.1, short (take read.0 bytes) read.2)
@@ -68,6 +68,6 @@ module _ (bytes : List ℕ) (left' : Option (List ℕ)) (stop : ReadStop) where
       short taken (inr none) = ap heard_on (requests_stop taken meant.IsCut none)
 
   -- memory was wanting
-  pub lacking_next : stop ≡ NoMemory → Reads stop → (taken : List ℕ) × Takes bytes taken left'
+  pub lacking_next : stop ≡ NoMemory → Reads stop → (taken : List ℕ) × TakesBytes bytes taken left'
   lacking_next is reads =
       let read = subst Reads is reads in (take read.0 bytes, took read.0 bytes left' read.2)

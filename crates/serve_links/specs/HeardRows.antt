@@ -24,7 +24,7 @@ use Rattle.link_ends.specs.declared.halt.Halt.TheVariants as halt
 use Rattle.serve_links.specs.Connections.{IsBrokenOff, IsCutAt, bytes_of}
 use Rattle.serve_links.specs.Histories.{HasHistory}
 use Rattle.serve_links.specs.HistoriesInCode.{HasSameCode, HasServed, own_digest, program_served, step_of, turns_of}
-use Rattle.serve_links.specs.Messages.{Answers, AnswersKept, AnswersPart, BreaksOff, ComesNext, CountsMessage, Ends, GoesOn, HearsNext, IsHeardOf, IsReadAs, IsStoppedAt, ServesMessage, StaysServing}
+use Rattle.serve_links.specs.Messages.{ServerAnswers, AnswersKept, AnswersPart, BreaksOff, ComesNext, CountsMessage, Ends, ServingGoesOn, HearsNext, IsHeardOf, IsReadAs, IsStoppedAt, ServesMessage, StaysServing}
 use Rattle.serve_links.specs.Prompt.{WaitsForOne}
 
 -- BYTES
@@ -72,7 +72,7 @@ module _ (hash : Hash) (Kept : (told made : List RoleCall) → Type 0) {A G : Ty
   told = bytes_of (step_of hash old server m).replies
 
   -- its replies were sent whole, or a front of them
-  pub answers : Serves hash new (step_of hash old server m).server → Answers hash Kept old new server (Some []) (Some told) m (Ok (step_of hash old server m).closing)
+  pub answers : Serves hash new (step_of hash old server m).server → ServerAnswers hash Kept old new server (Some []) (Some told) m (Ok (step_of hash old server m).closing)
   answers serves = (refl, refl, serves)
 
   pub answers_part : Serves hash new (step_of hash old server m).server → (n : ℕ) → n ≤ length told → AnswersPart hash Kept old new server (Some []) (Some (take n told)) m
@@ -81,23 +81,23 @@ module _ (hash : Hash) (Kept : (told made : List RoleCall) → Type 0) {A G : Ty
   pub answers_whole : Serves hash new (step_of hash old server m).server → AnswersPart hash Kept old new server (Some []) (Some (take (length told) told)) m
   answers_whole serves = (length told, omega arith, refl, serves)
 
-  pub answers_fault : (sent sent' : Option (List ℕ)) → AnswersPart hash Kept old new server sent sent' m → Answers hash Kept old new server sent sent' m (Err halt.LinkFault)
+  pub answers_fault : (sent sent' : Option (List ℕ)) → AnswersPart hash Kept old new server sent sent' m → ServerAnswers hash Kept old new server sent sent' m (Err halt.LinkFault)
   answers_fault sent sent' part = part
 
   -- where it was stopped then, all commits are kept
   pub answers_kept : (sent sent' : Option (List ℕ)) → AnswersPart hash Kept old new server sent sent' m
       → Kept (step_of hash old server m).server.shared.commits (step_of hash old server m).server.shared.commits
-      → AnswersKept hash Kept old new server sent sent' m × Answers hash Kept old new server sent sent' m (Err halt.Stopped)
+      → AnswersKept hash Kept old new server sent sent' m × ServerAnswers hash Kept old new server sent sent' m (Err halt.Stopped)
   answers_kept sent sent' part kept = ((part, kept), inl (part, kept))
 
   -- or it was stopped at it, and nothing was sent
   pub stopped : (sent : Option (List ℕ)) (behind : Server) → IsStopped hash (program_served old) (turns_of old) server m behind → Serves hash new behind
-      → Kept server.shared.commits behind.shared.commits → IsStoppedAt hash Kept old new server sent sent m × Answers hash Kept old new server sent sent m (Err halt.Stopped)
+      → Kept server.shared.commits behind.shared.commits → IsStoppedAt hash Kept old new server sent sent m × ServerAnswers hash Kept old new server sent sent m (Err halt.Stopped)
   stopped sent behind is serves kept = ((refl, (behind, is, serves, kept)), inr (refl, (behind, is, serves, kept)))
 
 -- it isn't stopped with commits that aren't kept so
 pub kept_where_stopped : (hash : Hash) {A G : Type 0} (old new : ServeCore A G) (server : Server) (m : meant.Heard) (sent sent' : Option (List ℕ))
-    → Answers hash (λ told made. ⊥) old new server sent sent' m (Err halt.Stopped) → ⊥
+    → ServerAnswers hash (λ told made. ⊥) old new server sent sent' m (Err halt.Stopped) → ⊥
 kept_where_stopped hash old new server m sent sent' (inl answers) = answers.1
 kept_where_stopped hash old new server m sent sent' (inr stopped) = stopped.1.3
 
@@ -105,7 +105,7 @@ module _ (hash : Hash) (Kept : (told made : List RoleCall) → Type 0) {A G : Ty
   -- a leave was answered, and the connection goes on behind it
   pub goes_on : IsReadAs bye_bytes (Bye 1) → (step_of hash old server (Hears (Bye 1))).closing ≡ false
       → sent' ≡ append_known sent (bytes_of (step_of hash old server (Hears (Bye 1))).replies) → Serves hash new (step_of hash old server (Hears (Bye 1))).server
-      → GoesOn hash Kept old new server sent sent' (bye_bytes ++ hello_bytes) (Some hello_bytes)
+      → ServingGoesOn hash Kept old new server sent sent' (bye_bytes ++ hello_bytes) (Some hello_bytes)
   goes_on came stays sends serves =
       record { request = Bye 1; taken = bye_bytes; rest = hello_bytes; all = refl; came = came; told = refl; stays_open = stays; sends = sends; serves = serves }
 
@@ -118,7 +118,7 @@ module _ (hash : Hash) (Kept : (told made : List RoleCall) → Type 0) {A G : Ty
   broke_off heard out sends cut broken serves = record { heard = heard; taken = hello_bytes; out = out; takes = (bye_bytes, refl, refl); sends = sends; cut = cut; broken = broken; serves = serves }
 
   -- what a message comes to, by its answer
-  pub went_on : (bytes : List ℕ) (left : Option (List ℕ)) → GoesOn hash Kept old new server sent sent' bytes left → ServesMessage hash Kept old new server sent sent' bytes left (Ok true)
+  pub went_on : (bytes : List ℕ) (left : Option (List ℕ)) → ServingGoesOn hash Kept old new server sent sent' bytes left → ServesMessage hash Kept old new server sent sent' bytes left (Ok true)
   went_on bytes left goes = goes
 
   pub ended : (bytes : List ℕ) (left : Option (List ℕ)) → Ends hash Kept old new server sent sent' bytes left Over → ServesMessage hash Kept old new server sent sent' bytes left (Ok false)

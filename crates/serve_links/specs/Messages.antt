@@ -12,7 +12,7 @@ use Rattle.session_turns.specs.Keepers.{HasStayed, MayHaveFailed}
 use Rattle.serve_core.specs.Serving.{Serves, heard_meant}
 use Rattle.serve_core.specs.declared.server.ServeCore.{ServeCore}
 use Rattle.serve_core.specs.declared.heard.Heard.{Heard}
-use Rattle.link_ends.specs.MoreLinks.{Takes}
+use Rattle.link_ends.specs.MoreLinks.{TakesBytes}
 use Rattle.link_ends.specs.declared.end.ConnectionEnd.{ConnectionEnd}
 use Rattle.link_ends.specs.declared.end.ConnectionEnd.TheVariants.{Over, Stopped}
 use Rattle.link_ends.specs.declared.halt.Halt.{Halt}
@@ -38,13 +38,13 @@ IsHeardOf bytes taken m = (stop : Stop) × (messages request_of bytes ≡ NoMore
 
 -- some of these bytes were taken, and that is heard of them
 abbrev pub ComesNext : List ℕ → Option (List ℕ) → meant.Heard → Type 0
-ComesNext bytes left' m = (taken : List ℕ) × Takes bytes taken left' × IsHeardOf bytes taken m
+ComesNext bytes left' m = (taken : List ℕ) × TakesBytes bytes taken left' × IsHeardOf bytes taken m
 
 -- This is heard next. Where the link failed, no message stands whole in the bytes that were taken.
 abbrev pub HearsNext : List ℕ → Option (List ℕ) → Result Heard Halt → Type 0
 HearsNext bytes left' (Ok heard) = ComesNext bytes left' (heard_meant heard)
-HearsNext bytes left' (Err halt.LinkFault) = (taken : List ℕ) × Takes bytes taken left' × (heard_in taken ≡ meant.HearsEnd ∷ [])
-HearsNext bytes left' (Err halt.Stopped) = (taken : List ℕ) × Takes bytes taken left'
+HearsNext bytes left' (Err halt.LinkFault) = (taken : List ℕ) × TakesBytes bytes taken left' × (heard_in taken ≡ meant.HearsEnd ∷ [])
+HearsNext bytes left' (Err halt.Stopped) = (taken : List ℕ) × TakesBytes bytes taken left'
 
 -- The core goes on as a server with a history, unless it was stopped: then it is a server still.
 abbrev pub StaysServing : {A G T : Type 0} → Hash → ServeCore A G → Result T Halt → Type 0
@@ -90,15 +90,15 @@ module _ (hash : Hash) (Kept : (told made : List RoleCall) → Type 0) {A G : Ty
       × Kept server.shared.commits stopped.shared.commits)
 
   -- It was handled, and all its replies were sent, with the answer whether the server closes the connection; or a part of that.
-  abbrev pub Answers : meant.Heard → Result Bool Halt → Type 0
-  Answers m (Ok closing) =
+  abbrev pub ServerAnswers : meant.Heard → Result Bool Halt → Type 0
+  ServerAnswers m (Ok closing) =
       let step = step_of hash old server m in
       (sent' ≡ append_known sent (bytes_of step.replies)) × (closing ≡ step.closing) × Serves hash new step.server
-  Answers m (Err halt.LinkFault) = AnswersPart m
-  Answers m (Err halt.Stopped) = AnswersKept m ⊎ IsStoppedAt m
+  ServerAnswers m (Err halt.LinkFault) = AnswersPart m
+  ServerAnswers m (Err halt.Stopped) = AnswersKept m ⊎ IsStoppedAt m
 
   -- a request was heard of these bytes and answered, the connection goes on, and these bytes are left
-  pub record GoesOn (bytes : List ℕ) (left' : Option (List ℕ)) : Type 0 where
+  pub record ServingGoesOn (bytes : List ℕ) (left' : Option (List ℕ)) : Type 0 where
     pub request : Request
     pub taken : List ℕ
     pub rest : List ℕ
@@ -114,7 +114,7 @@ module _ (hash : Hash) (Kept : (told made : List RoleCall) → Type 0) {A G : Ty
     pub taken : List ℕ
     pub out : List ℕ
     pub behind : Server
-    pub takes : Takes bytes taken left'
+    pub takes : TakesBytes bytes taken left'
     pub sends : sent' ≡ append_known sent out
     pub served : IsServed hash (program_served old) (own_digest old) (turns_of old) Kept server bytes taken out end behind
     pub serves : Serves hash new behind
@@ -124,7 +124,7 @@ module _ (hash : Hash) (Kept : (told made : List RoleCall) → Type 0) {A G : Ty
     pub heard : List meant.Heard
     pub taken : List ℕ
     pub out : List ℕ
-    pub takes : Takes bytes taken left'
+    pub takes : TakesBytes bytes taken left'
     pub sends : sent' ≡ append_known sent out
     pub cut : IsCutAt hash (program_served old) (own_digest old) (turns_of old) server taken heard out
     pub broken : IsBrokenOff hash (program_served old) (own_digest old) (turns_of old) server bytes heard out
@@ -132,7 +132,7 @@ module _ (hash : Hash) (Kept : (told made : List RoleCall) → Type 0) {A G : Ty
 
   -- A message of the connection was served: it goes on, or not.
   abbrev pub ServesMessage : List ℕ → Option (List ℕ) → Result Bool Halt → Type 0
-  ServesMessage bytes left' (Ok true) = GoesOn bytes left'
+  ServesMessage bytes left' (Ok true) = ServingGoesOn bytes left'
   ServesMessage bytes left' (Ok false) = Ends bytes left' Over
   ServesMessage bytes left' (Err halt.LinkFault) = BreaksOff bytes left'
   ServesMessage bytes left' (Err halt.Stopped) = Ends bytes left' Stopped

@@ -6,7 +6,7 @@ ghost use Rattle.session_meaning.specs.Server.{Server};
 ghost use Rattle.link_ends.specs.Halts.{HaltCause};
 ghost use Rattle.serve_core.specs.Serving.{Serves, heard_meant};
 ghost use Rattle.serve_links.specs.HistoriesInCode.{HasSameCode, HasServed};
-ghost use Rattle.serve_links.specs.Messages.{Answers, CountsMessage, HearsNext, ServesMessage, StaysServing, StillKeeps, StopCause, asks};
+ghost use Rattle.serve_links.specs.Messages.{ServerAnswers, CountsMessage, HearsNext, ServesMessage, StaysServing, StillKeeps, StopCause, asks};
 ghost use Rattle.session_turns.specs.Keepers.{KeepsBetween};
 ghost use Rattle.serve_links.specs.Prompt.{WaitsForOne};
 ghost use Rattle.wire_form.specs.MovedBytes.{Moves};
@@ -58,7 +58,7 @@ fn answer<H: Hash32, G: Gate + Drop, K: Keeper, L: Link, R: Threads + Sync>(
     requires kept { (place : K.Place) × K.keeps keeper.old place core.old.shared.commits.items }
     requires message { IsHeard (heard_meant heard) }
     ensures answers { (server : Server) (place : K.Place) → Serves H.hash core.old server → K.keeps keeper.old place core.old.shared.commits.items
-        → Answers H.hash (KeepsBetween (K.keeps keeper.new place)) core.old core.new server (L.sent link.old) (L.sent link.new) (heard_meant heard) result }
+        → ServerAnswers H.hash (KeepsBetween (K.keeps keeper.new place)) core.old core.new server (L.sent link.old) (L.sent link.new) (heard_meant heard) result }
     ensures kept { (place : K.Place) → K.keeps keeper.old place core.old.shared.commits.items → StillKeeps (K.keeps keeper.new place core.new.shared.commits.items) result }
     ensures keeper { StopCause (K.faults keeper.old) (K.faults keeper.new) (K.faulted keeper.old) (K.faulted keeper.new) result }
     ensures keeper_rest { K.rest keeper.new ≡ K.rest keeper.old }

@@ -6,7 +6,7 @@ use Rattle.session_meaning.specs.MessageFields.{HasFields, HasReplyFields, IsRep
 use Rattle.session_meaning.specs.MessageLaws.{all_of}
 use Rattle.session_meaning.specs.Client.{Calls, Hellos, Byes}
 use Rattle.session_meaning.specs.Server.{Hears}
-use Rattle.session_meaning.specs.ReplyLaws.{IsAsk, IsHeard}
+use Rattle.session_meaning.specs.ReplyLaws.{IsWithinMessages, IsHeard}
 use Rattle.session_meaning.specs.MessageRows.{text_digest}
 
 -- a session's number is 1 to 65,535
@@ -100,17 +100,17 @@ no_message_is_heard h = no_session_0 h.0.fields
 pub no_argument_is_heard : IsHeard (Hears (Call 1 0 0 (256 ∷ []))) → ⊥
 no_argument_is_heard h = let k : 256 < 256 = h.1.0 in omega (arith, k)
 
-pub greatest_asked : (bytes : List ℕ) → IsAsk (Hellos 65535 65535 bytes) × IsAsk (Calls 1 65535 18446744073709551615 bytes) × IsAsk (Byes 1)
+pub greatest_asked : (bytes : List ℕ) → IsWithinMessages (Hellos 65535 65535 bytes) × IsWithinMessages (Calls 1 65535 18446744073709551615 bytes) × IsWithinMessages (Byes 1)
 greatest_asked bytes = ((greatest_session, lit< tt), (least_session, lit< tt, lit< tt), least_session)
 
-pub sessions_asked : (n role fuel : ℕ) (bytes : List ℕ) → (IsAsk (Hellos 0 n bytes) → ⊥) × (IsAsk (Calls 0 role fuel bytes) → ⊥) × (IsAsk (Byes 0) → ⊥)
+pub sessions_asked : (n role fuel : ℕ) (bytes : List ℕ) → (IsWithinMessages (Hellos 0 n bytes) → ⊥) × (IsWithinMessages (Calls 0 role fuel bytes) → ⊥) × (IsWithinMessages (Byes 0) → ⊥)
 sessions_asked n role fuel bytes = ((λ h. no_session_0 h.0), (λ h. no_session_0 h.0), (λ h. no_session_0 h))
 
-pub no_larger_ring_asked : (bytes : List ℕ) → IsAsk (Hellos 1 65536 bytes) → ⊥
+pub no_larger_ring_asked : (bytes : List ℕ) → IsWithinMessages (Hellos 1 65536 bytes) → ⊥
 no_larger_ring_asked bytes h = let k : 65536 < 65536 = h.1 in omega (arith, k)
 
-pub no_greater_role_asked : (bytes : List ℕ) → IsAsk (Calls 1 65536 0 bytes) → ⊥
+pub no_greater_role_asked : (bytes : List ℕ) → IsWithinMessages (Calls 1 65536 0 bytes) → ⊥
 no_greater_role_asked bytes h = let k : 65536 < 65536 = h.1 in omega (arith, k)
 
-pub no_more_fuel_asked : (bytes : List ℕ) → IsAsk (Calls 1 0 18446744073709551616 bytes) → ⊥
+pub no_more_fuel_asked : (bytes : List ℕ) → IsWithinMessages (Calls 1 0 18446744073709551616 bytes) → ⊥
 no_more_fuel_asked bytes h = let k : 18446744073709551616 < 18446744073709551616 = h.2 in omega (arith, k)

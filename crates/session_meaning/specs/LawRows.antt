@@ -12,7 +12,7 @@ use Rattle.session_meaning.specs.Client.{Known, Asked, Greeting, Idle, Leaving, 
 use Rattle.session_meaning.specs.ClientLaws.{BeginsWith, HasBytes, lives}
 use Rattle.session_meaning.specs.Exchange.{Greets, Asks, Leaves, Goes, Takes, IsRefusedReply, IsTold, IsWellAnswered, MoveHasBytes}
 use Rattle.session_meaning.specs.Isolation.{IsQuietRun, StaysOpen, is_quiet}
-use Rattle.session_meaning.specs.ReplyLaws.{HasArgumentBytes, IsAsk, IsHeard}
+use Rattle.session_meaning.specs.ReplyLaws.{HasArgumentBytes, IsWithinMessages, IsHeard}
 use Rattle.session_meaning.specs.Stopped.{IsStopped}
 use Rattle.session_meaning.specs.MessageRows.{text_digest}
 
@@ -82,7 +82,7 @@ requests_have_bytes session n role fuel state = (tt, tt, tt, (omega arith, tt), 
 pub others_are_heard : IsHeard HearsBad × IsHeard HearsEnd
 others_are_heard = (tt, tt)
 
-pub asks_of_others : (session : ℕ) → IsAsk (Forgets session) × IsAsk (HearsReply (Welcome session))
+pub asks_of_others : (session : ℕ) → IsWithinMessages (Forgets session) × IsWithinMessages (HearsReply (Welcome session))
 asks_of_others session = (tt, tt)
 
 -- A SESSION OF A CLIENT

@@ -20,7 +20,7 @@ use Rattle.core_terms.specs.declared.roles.RoleKind.TheVariants as kinds
 use Rattle.code_gen.specs.declared.code.Code.{Code}
 use Rattle.ideal_meaning.specs.Following.{after_frames}
 use Rattle.ideal_meaning.specs.Frames.{Frame, frame_bytes}
-use Rattle.ideal_meaning.specs.Headline.{call_of}
+use Rattle.ideal_meaning.specs.Headline.{call_values}
 use Rattle.ideal_meaning.specs.Ideal as ideal
 use Rattle.ideal_meaning.specs.Run.{first_in}
 use Rattle.ideal_meaning.proofs.RoleCalls.{result_is}
@@ -109,7 +109,7 @@ module _ (hash : Hash) (code : Code) {A : Type 0} (base : List Node) (run : Runn
   f = (role_in Q call.role).function
 
   abbrev vs : Values
-  vs = call_of state call.argument
+  vs = call_values state call.argument
 
   has_run : HasRun hash code (nodes_of_call base run) run.proving f vs call.fuel × IsIdealOutcome hash code (nodes_of_call base run) f vs call.fuel outcome
   has_run = subst (λ last. StandsAt hash code (nodes_of_call base run) run.proving f vs call.fuel made last) e h.0.stands

@@ -9,7 +9,7 @@ use Rattle.core_terms.specs.declared.outcome.Outcome.{Outcome}
 use Rattle.code_gen.specs.declared.code.Code.{Code}
 use Rattle.ideal_meaning.specs.Following.{after_frames}
 use Rattle.ideal_meaning.specs.Frames.{Frame, frame_bytes}
-use Rattle.ideal_meaning.specs.Headline.{call_of}
+use Rattle.ideal_meaning.specs.Headline.{call_values}
 use Rattle.mode_vm.specs.Meanings.{program_of}
 use Rattle.reuse_buffer.specs.Kept.{kept}
 use Rattle.session_meaning.specs.Calls.{RoleCall, calls_of, role_in}
@@ -111,7 +111,7 @@ module _ (hash : Hash) (code : Code) (slice : ℕ) {A : Type 0} (old new : List 
   still_there there = let count = length-append versions more in omega (arith, count, there)
 
   run_stays : (c : SessionCall A) (call : RoleCall) (made : ℕ) → IsRunOf hash code old c.run c.call state_then call made → IsRunOf hash code new c.run c.call state_then call made
-  run_stays c call made i = (running_stays hash code old new c.run (role_in (program_of code) call.role).function (call_of state_then call.argument) call.fuel made grows i.0, i.1)
+  run_stays c call made i = (running_stays hash code old new c.run (role_in (program_of code) call.role).function (call_values state_then call.argument) call.fuel made grows i.0, i.1)
 
   pub session_stays : IsSession hash code slice old versions session s → IsSession hash code slice new (versions ++ more) session s
   session_stays h =

@@ -6,7 +6,7 @@ use Rattle.std.proofs.lemmas.List.{take-append-drop}
 use Rattle.core_terms.specs.Formats.{Hash}
 use Rattle.core_terms.specs.Values.{Value}
 use Rattle.code_gen.specs.declared.code.Code.{Code}
-use Rattle.ideal_meaning.specs.Headline.{call_of}
+use Rattle.ideal_meaning.specs.Headline.{call_values}
 use Rattle.mode_vm.specs.Meanings.{program_of}
 use Rattle.session_meaning.specs.Calls.{calls_of, role_in}
 use Rattle.session_meaning.specs.Server as meant
@@ -18,7 +18,7 @@ use Rattle.session_turns.specs.Ahead.{AreAhead, IsNumberedAhead, RunsAhead}
 use Rattle.session_turns.specs.Rounds.{AreSessions, IsNumbered}
 use Rattle.session_turns.specs.Sessions.{Runs}
 use Rattle.session_turns.specs.Sharing.{IsCommit}
-use Rattle.session_turns.specs.Turning.{AllGoOn, AllTurned, CallRunsTo, GoesOn, IsTurnOf}
+use Rattle.session_turns.specs.Turning.{AllGoOn, AllTurned, CallRunsTo, MayTakeTurn, IsTurnOf}
 use Rattle.session_turns.specs.declared.session.Session.{Session}
 use Rattle.session_turns.specs.declared.session.SessionCall.{SessionCall}
 use Rattle.session_turns.specs.declared.shared.Shared.{Shared}
@@ -49,10 +49,10 @@ module _ (hash : Hash) (code : Code) (base : List Node) {A : Type 0} where
 
 -- SESSIONS THAT TAKE A TURN
 module _ (hash : Hash) (code : Code) (slice : ℕ) {A : Type 0} (shared : Shared) (versions : List Value) where
-  goes_on : (state : Value) (c : Option (SessionCall A)) (r : Option meant.Running) → Runs hash code slice (nodes_in shared.store) state c r → GoesOn hash code (nodes_in shared.store) c
+  goes_on : (state : Value) (c : Option (SessionCall A)) (r : Option meant.Running) → Runs hash code slice (nodes_in shared.store) state c r → MayTakeTurn hash code (nodes_in shared.store) c
   goes_on state None None h = tt
   goes_on state (Some c) (Some r) h =
-      ((role_in (program_of code) r.call.role).function, call_of state r.call.argument, r.call.fuel, r.turns * slice, h.0.0, h.1)
+      ((role_in (program_of code) r.call.role).function, call_values state r.call.argument, r.call.fuel, r.turns * slice, h.0.0, h.1)
   goes_on state None (Some r) h = elim h [ ]
   goes_on state (Some c) None h = elim h [ ]
 
@@ -68,7 +68,7 @@ module _ (hash : Hash) (code : Code) (slice : ℕ) {A : Type 0} (shared : Shared
     run_ahead state None None None h t = tt
     run_ahead state (Some c) (Some d) (Some r) h t =
         let P = program_of code in
-        let turned = t.0 (role_in P r.call.role).function (call_of state r.call.argument) r.call.fuel (r.turns * slice) h.0.0 in
+        let turned = t.0 (role_in P r.call.role).function (call_values state r.call.argument) r.call.fuel (r.turns * slice) h.0.0 in
         IfOk-weaker d.run.last _ _ (λ told e. ((turned.0, subst (λ k. IsCommit k r.call) (sym t.1) h.0.1), e ∙ same_turn slice (calls_of P state r.call) r.turns some)) turned.1
     run_ahead state (Some c) None r h t = elim t [ ]
     run_ahead state None (Some d) r h t = elim t [ ]

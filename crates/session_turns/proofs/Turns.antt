@@ -9,7 +9,7 @@ use Rattle.core_terms.specs.Projection.{digest_at}
 use Rattle.core_terms.specs.Values.{Value, Values}
 use Rattle.core_terms.specs.declared.outcome.Outcome.{Outcome}
 use Rattle.code_gen.specs.declared.code.Code.{Code}
-use Rattle.ideal_meaning.specs.Headline.{call_of}
+use Rattle.ideal_meaning.specs.Headline.{call_values}
 use Rattle.mode_vm.specs.Meanings.{program_of}
 use Rattle.mode_vm.specs.StateCalls.{IsCalledOn}
 use Rattle.prover_mode.specs.Turns.{IsProving, TurnEnds, calls_made}
@@ -90,8 +90,8 @@ module _ (hash : Hash) (code : Code) where
   pub begun : {A : Type 0} (base : List Node) (granted : Granted) (role : ℕ) (s a : Value) (version : Ref) (proving : Proving A) (fuel : ℕ)
       → HoldsCall hash (program_of code) base granted role a → IsVersion hash (program_of code) base version s
       → ((nodes : List Node) (s a : Value) → IsCalledOn hash (program_of code) granted.function.0 nodes version granted.argument s a
-      → IsProving hash code nodes proving granted.function.0 (call_of s a) fuel 0)
-      → IsRunning hash code base (record { own = granted.own; from = granted.from; proving = proving; last = Ok None }) (role_in (program_of code) role).function (call_of s a) fuel 0
+      → IsProving hash code nodes proving granted.function.0 (call_values s a) fuel 0)
+      → IsRunning hash code base (record { own = granted.own; from = granted.from; proving = proving; last = Ok None }) (role_in (program_of code) role).function (call_values s a) fuel 0
   begun base granted role s a version proving fuel h is go =
       let P = program_of code in
       let kind = ProverNodes (digest_at hash P) in
@@ -105,7 +105,7 @@ module _ (hash : Hash) (code : Code) where
         within = omega (arith, all);
         sound = h.sound;
         stands =
-            subst (λ f. IsProving hash code nodes proving f (call_of s a) fuel 0) h.of_role
+            subst (λ f. IsProving hash code nodes proving f (call_values s a) fuel 0) h.of_role
             (go nodes s a (record { state_stands = stands; argument_stands = h.stands }));
       }
 

@@ -12,14 +12,14 @@ use Rattle.session_turns.specs.declared.session.SessionCall.{SessionCall}
 
 module _ (hash : Hash) (code : Code) (base : List Node) {A : Type 0} where
   -- the call may take a turn: it stands behind some calls of functions, and hasn't come to its end
-  abbrev pub GoesOn : Option (SessionCall A) → Type 0
-  GoesOn (Some c) = (f : ℕ) × (vs : Values) × (k : ℕ) × (made : ℕ) × IsRunning hash code base c.run f vs k made × (c.run.last ≡ Ok None)
-  GoesOn None = Unit {0}
+  abbrev pub MayTakeTurn : Option (SessionCall A) → Type 0
+  MayTakeTurn (Some c) = (f : ℕ) × (vs : Values) × (k : ℕ) × (made : ℕ) × IsRunning hash code base c.run f vs k made × (c.run.last ≡ Ok None)
+  MayTakeTurn None = Unit {0}
 
   -- so it is with the calls of all of them
   abbrev pub AllGoOn : List (Entry (Session A)) → Type 0
   AllGoOn [] = Unit {0}
-  AllGoOn (entry ∷ entries) = GoesOn entry.value.running × AllGoOn entries
+  AllGoOn (entry ∷ entries) = MayTakeTurn entry.value.running × AllGoOn entries
 
   module _ (units : ℕ) where
     -- a call is as its own turn leaves it

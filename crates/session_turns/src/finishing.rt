@@ -7,7 +7,7 @@ ghost use Rattle.core_terms.specs.Terms.{function_at};
 ghost use Rattle.core_terms.specs.Values.{Value};
 ghost use Rattle.ideal_meaning.specs.Frames.{frame_bytes};
 ghost use Rattle.ideal_meaning.specs.Following.{after_frames};
-ghost use Rattle.ideal_meaning.specs.Headline.{call_of};
+ghost use Rattle.ideal_meaning.specs.Headline.{call_values};
 ghost use Rattle.ideal_meaning.specs.Ideal as ideal;
 ghost use Rattle.mode_vm.specs.IdealRuns.{IsOutcome};
 ghost use Rattle.mode_vm.specs.Meanings.{program_of};

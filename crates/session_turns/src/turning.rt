@@ -6,7 +6,7 @@ ghost use Rattle.mode_vm.specs.Meanings.{program_of};
 ghost use Rattle.value_store.specs.Markings.{HasLimit};
 ghost use Rattle.value_store.specs.Stores.{nodes_in, store_lent};
 ghost use Rattle.session_turns.specs.Rounds.{runs};
-ghost use Rattle.session_turns.specs.Turning.{AllGoOn, AllTurned, GoesOn, IsTurnOf};
+ghost use Rattle.session_turns.specs.Turning.{AllGoOn, AllTurned, MayTakeTurn, IsTurnOf};
 
 use crate::gate::Gate;
 use crate::session::{Session, SessionCall};
@@ -108,7 +108,7 @@ fn take_turn<H: Hash32, G: Gate>(
     entry: &mut Entry<Session<H>>,
 )
     requires limit { HasLimit (program_of code.now) (store_lent base.now) }
-    requires goes_on { GoesOn H.hash code.now (nodes_in base.now) entry.old.value.running }
+    requires goes_on { MayTakeTurn H.hash code.now (nodes_in base.now) entry.old.value.running }
     requires some { 0 < units }
     ensures { IsTurnOf H.hash code.now (nodes_in base.now) units entry.old entry.new }
 {

@@ -5,7 +5,7 @@ use Rattle.core_terms.specs.Roles.{argument_type}
 use Rattle.core_terms.specs.Terms.{Program}
 use Rattle.core_terms.specs.declared.program.FunctionId.{FunctionId}
 use Rattle.ideal_meaning.specs.Checked as checked
-use Rattle.verifier_mode.specs.Verdicts.{Answers}
+use Rattle.verifier_mode.specs.Verdicts.{AnswersVerdict}
 use Rattle.verified_calls.specs.declared.call.VerifiedCall.{VerifiedCall}
 
 -- it is this call, with this proof file
@@ -18,4 +18,4 @@ pub record IsCallOf (role : FunctionId) (state argument : List ℕ) (fuel : ℕ)
 
 -- the verdict on its file is that it is accepted, with its outcome
 abbrev pub IsVerified : Hash → Program → VerifiedCall → Type 0
-IsVerified hash P call = Answers P call.role.0 (checked.verdict hash P (argument_type P call.role.0) call.role.0 call.state call.argument call.fuel call.file.items) (Ok call.outcome)
+IsVerified hash P call = AnswersVerdict P call.role.0 (checked.verdict hash P (argument_type P call.role.0) call.role.0 call.state call.argument call.fuel call.file.items) (Ok call.outcome)

@@ -6,7 +6,7 @@ ghost use Rattle.core_terms.specs.Roles.{argument_type};
 ghost use Rattle.ideal_meaning.specs.Checked as checked;
 ghost use Rattle.mode_vm.specs.Meanings.{program_of};
 ghost use Rattle.mode_vm.specs.StateCalls.{TakesState};
-ghost use Rattle.verifier_mode.specs.Verdicts.{Answers, VerdictCause};
+ghost use Rattle.verifier_mode.specs.Verdicts.{AnswersVerdict, VerdictCause};
 ghost use Rattle.verified_calls.specs.Verified.{IsCallOf, IsVerified};
 
 use code_gen::Code;
@@ -65,7 +65,7 @@ pub fn verify_call<H: Hash32>(
     ensures accepted { IfOk result (IsVerified H.hash (program_of code.now)) }
     ensures cause { IfErr result (λ refusal. VerdictCause {T = Outcome Spelling} 0 0 (Err refusal)) }
     ensures refused { let P = program_of code.now in
-        IfErr result (λ refusal. Answers P role.0 (checked.verdict H.hash P (argument_type P role.0) role.0 state argument fuel file.items) (Err refusal)) }
+        IfErr result (λ refusal. AnswersVerdict P role.0 (checked.verdict H.hash P (argument_type P role.0) role.0 state argument fuel file.items) (Err refusal)) }
 {
     match judge::<H>(
         alloc,
@@ -101,7 +101,7 @@ fn judge<H: Hash32>(
     requires there { role.0 < length (program_of code.now).functions }
     requires role { TakesState (program_of code.now) role.0 }
     requires fuel_fits { fuel ≤ 10 ^ 12 }
-    ensures verdict { let P = program_of code.now in Answers P role.0 (checked.verdict H.hash P (argument_type P role.0) role.0 state.now argument.now fuel file.now) result }
+    ensures verdict { let P = program_of code.now in AnswersVerdict P role.0 (checked.verdict H.hash P (argument_type P role.0) role.0 state.now argument.now fuel file.now) result }
     ensures cause { VerdictCause 0 0 result }
 {
     let mut proof = Bytes::new(file);

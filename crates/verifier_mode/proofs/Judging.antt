@@ -35,7 +35,7 @@ use Rattle.verifier_mode.specs.CallParts.{ArePut, IsReadAs}
 use Rattle.verifier_mode.specs.CheckedRuns.{CameTo, IsChecked, IsLeft}
 use Rattle.verifier_mode.specs.Spelled.{IsSpelledAs, OutcomeStands}
 use Rattle.verifier_mode.specs.Takings.{HasCome}
-use Rattle.verifier_mode.specs.Verdicts.{Answers, AnswersWithRing, IsTold, Tells, VerdictCause, call_verdict, verdict_of}
+use Rattle.verifier_mode.specs.Verdicts.{AnswersVerdict, AnswersWithRing, TellsSomeOutcome, Tells, VerdictCause, call_verdict, verdict_of}
 use Rattle.verifier_mode.proofs.Pieces.{some_same}
 
 -- a run that was stopped
@@ -64,7 +64,7 @@ spelled_stands P nodes sound t r v bytes stands is = record {
 }
 
 -- an outcome that stands there is told by its spelling
-pub told_as : (P : Program) (nodes : List Node) → AreSound P.format.limit nodes → (t : Ty) (o : Outcome Ref) (result : Outcome Spelling) → OutcomeStands P nodes t o → IsSpelledAs P.types nodes t o result → IsTold P t result
+pub told_as : (P : Program) (nodes : List Node) → AreSound P.format.limit nodes → (t : Ty) (o : Outcome Ref) (result : Outcome Spelling) → OutcomeStands P nodes t o → IsSpelledAs P.types nodes t o result → TellsSomeOutcome P t result
 told_as P nodes sound t (told.Done r) (told.Done bytes) (v, stands) e = (ideal.Done v, (v, refl, spelled_stands P nodes sound t r v bytes stands (e v stands)))
 told_as P nodes sound t (told.Trapped trap) (told.Trapped trap') h e = (ideal.Trapped (trap_told trap'), refl)
 told_as P nodes sound t told.Out told.Out h e = (ideal.Out, refl)
@@ -160,7 +160,7 @@ module _ (hash : Hash) (P : Program) (f : ℕ) (state argument : List ℕ) (k : 
     good_call s a e e' found is =
         good_state s e ∙ ap (λ r. checked.with_argument hash P s r f k bytes) e'.1 ∙ ap (λ found. checked.with_header hash P found f (AndV s (AndV a NoV)) k bytes) is
 
-    pub refused : (nodes : List Node) (refusal : CallFault) → ArePut P nodes ty state argument (Err refusal) → Answers P f on_file (Err (call_verdict refusal))
+    pub refused : (nodes : List Node) (refusal : CallFault) → ArePut P nodes ty state argument (Err refusal) → AnswersVerdict P f on_file (Err (call_verdict refusal))
     refused nodes (BadState offset) h = ap (λ r. checked.with_state hash P ty r argument f k bytes) h
     refused nodes (BadArgument offset) (s, e, h) = good_state s e ∙ ap (λ r. checked.with_argument hash P s r f k bytes) h
     refused nodes NoMemory h = tt

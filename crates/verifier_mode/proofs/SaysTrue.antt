@@ -15,7 +15,7 @@ use Rattle.core_terms.specs.declared.byte_string.ByteString.{ByteString as Spell
 use Rattle.ideal_meaning.specs.Ideal as ideal
 use Rattle.ideal_meaning.specs.Frames.{offered, offered_pieces, header}
 use Rattle.ideal_meaning.specs.Checked.{Accepted, judge, on_argument, on_state, verdict, verdict_on, with_argument, with_header, with_state}
-use Rattle.ideal_meaning.specs.Headline.{call_of, TrueOrSplit}
+use Rattle.ideal_meaning.specs.Headline.{call_values, TrueOrSplit}
 use Rattle.ideal_meaning.proofs.Headline.{headline_of_frames}
 use Rattle.ideal_meaning.proofs.Opening.{ReadsBack}
 use Rattle.ideal_meaning.proofs.Projections.{reads_back}
@@ -23,7 +23,7 @@ use Rattle.mode_vm.specs.StateCalls.{TakesState}
 use Rattle.mode_vm.proofs.StateCalls.{is_format, is_typed, parameters_of}
 use Rattle.reuse_buffer.specs.Kept.{Kept}
 use Rattle.verifier_mode.specs.declared.verdict.Verdict.{Verdict}
-use Rattle.verifier_mode.specs.Verdicts.{Answers, AnswersWithRing, SaysTrue, SaysTrueOn}
+use Rattle.verifier_mode.specs.Verdicts.{AnswersVerdict, AnswersWithRing, SaysTrue, SaysTrueOn}
 
 -- The state and the argument are read back, or refused; the rest is the headline of frames.
 module _ (hash : Hash) (is_hash : IsHash hash) (P : Program) (typed : IsTyped P) (format : IsFormat P.format) (f : ℕ) (takes : TakesState P f) (k : ℕ) (v a : Value) (o : ideal.Outcome)
@@ -38,15 +38,15 @@ module _ (hash : Hash) (is_hash : IsHash hash) (P : Program) (typed : IsTyped P)
   passed = projection hash P t a
 
   abbrev Claim : List ℕ → ℕ → List (List ℕ) → Type 0
-  Claim bytes n recent = TrueOrSplit hash P f (function_at P f).result (call_of v a) k (offered_pieces (offered P.format.limit bytes n recent)) o
+  Claim bytes n recent = TrueOrSplit hash P f (function_at P f).result (call_values v a) k (offered_pieces (offered P.format.limit bytes n recent)) o
 
-  at_frames : Fits P P.state v → Fits P t a → (bytes : List ℕ) (n : ℕ) (recent : List (List ℕ)) → judge hash P f (call_of shown passed) k bytes n recent ≡ Accepted o → Claim bytes n recent
+  at_frames : Fits P P.state v → Fits P t a → (bytes : List ℕ) (n : ℕ) (recent : List (List ℕ)) → judge hash P f (call_values shown passed) k bytes n recent ≡ Accepted o → Claim bytes n recent
   at_frames fits fits' bytes n recent accepted =
       let shape = parameters_of P f takes in
-      let ideals : AreIdeal P.types (function_at P f).parameters (call_of v a) = subst (λ ts. AreIdeal P.types ts (call_of v a)) (sym shape) (ideal_state, (ideal_argument, tt)) in
-      let all_fit : AllFit P (function_at P f).parameters (call_of v a) = subst (λ ts. AllFit P ts (call_of v a)) (sym shape) (fits, (fits', tt)) in
-      headline_of_frames hash is_hash P format typed f (call_of v a) k bytes n recent o ideals all_fit
-      (subst (λ ts. judge hash P f (projections hash P ts (call_of v a)) k bytes n recent ≡ Accepted o) (sym shape) accepted)
+      let ideals : AreIdeal P.types (function_at P f).parameters (call_values v a) = subst (λ ts. AreIdeal P.types ts (call_values v a)) (sym shape) (ideal_state, (ideal_argument, tt)) in
+      let all_fit : AllFit P (function_at P f).parameters (call_values v a) = subst (λ ts. AllFit P ts (call_values v a)) (sym shape) (fits, (fits', tt)) in
+      headline_of_frames hash is_hash P format typed f (call_values v a) k bytes n recent o ideals all_fit
+      (subst (λ ts. judge hash P f (projections hash P ts (call_values v a)) k bytes n recent ≡ Accepted o) (sym shape) accepted)
 
   module _ (bytes : List ℕ) (n : ℕ) (recent : List (List ℕ)) where
     on_frames : ReadsBack hash P P.state v → ReadsBack hash P t a → verdict_on hash P t f (spelling shown) (spelling passed) k bytes n recent ≡ Accepted o → Claim bytes n recent
@@ -64,7 +64,7 @@ module _ (hash : Hash) (is_hash : IsHash hash) (P : Program) (typed : IsTyped P)
     abbrev Filed : Type 0
     Filed = (n : ℕ) × (header P.format bytes ≡ Some n) × Claim (drop 6 bytes) n []
 
-    at_header : Fits P P.state v → Fits P t a → (h : Option ℕ) → header P.format bytes ≡ h → with_header hash P h f (call_of shown passed) k bytes ≡ Accepted o → Filed
+    at_header : Fits P P.state v → Fits P t a → (h : Option ℕ) → header P.format bytes ≡ h → with_header hash P h f (call_values shown passed) k bytes ≡ Accepted o → Filed
     at_header fits fits' None good accepted = absurd (cc (accepted))
     at_header fits fits' (Some n) good accepted = (n, good, at_frames fits fits' (drop 6 bytes) n [] accepted)
 
@@ -94,7 +94,7 @@ module _ (hash : Hash) (is_hash : IsHash hash) (p : Coded) (f : ℕ) (takes : Ta
       (o, spelled, true_on hash is_hash P (is_typed p) (is_format p) f takes k v a o ideal_state ideal_argument bytes n recent same)
 
   pub says_true : (proof : List ℕ) (result : Result (Outcome Spelling) Verdict)
-      → Answers (meaning p) f (verdict hash (meaning p) ty f state argument k proof) result
+      → AnswersVerdict (meaning p) f (verdict hash (meaning p) ty f state argument k proof) result
       → SaysTrue hash (meaning p) f state argument k proof result
   says_true proof (Err refusal) answers = tt
   says_true proof (Ok told) (o, accepted, spelled) = λ v a ideal_state ideal_argument state_is argument_is.

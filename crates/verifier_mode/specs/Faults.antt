@@ -30,7 +30,7 @@ end_told frame_end.ReadFault = None
 end_told frame_end.NoMemory = None
 
 -- a fault tells a cause
-abbrev pub IsTold : {A : Type 0} → Result A (Stop VerifierFault) → Type 0
-IsTold (Ok a) = Unit {0}
-IsTold (Err stop.NoMemory) = Unit {0}
-IsTold (Err (stop.Mode fault)) = (c : Cause) × (fault_cause fault ≡ Some c)
+abbrev pub FaultTellsCause : {A : Type 0} → Result A (Stop VerifierFault) → Type 0
+FaultTellsCause (Ok a) = Unit {0}
+FaultTellsCause (Err stop.NoMemory) = Unit {0}
+FaultTellsCause (Err (stop.Mode fault)) = (c : Cause) × (fault_cause fault ≡ Some c)

@@ -14,7 +14,7 @@ use Rattle.core_terms.specs.declared.byte_string.ByteString.{ByteString as Spell
 use Rattle.ideal_meaning.specs.Ideal as ideal
 use Rattle.ideal_meaning.specs.Frames.{header, offered, offered_pieces}
 use Rattle.ideal_meaning.specs.Checked as checked
-use Rattle.ideal_meaning.specs.Headline.{TrueOrSplit, call_of}
+use Rattle.ideal_meaning.specs.Headline.{TrueOrSplit, call_values}
 use Rattle.ideal_meaning.specs.Told.{cause_told}
 use Rattle.ideal_meaning.specs.SpelledOutcomes.{SpellsOutcome}
 use Rattle.mode_vm.specs.declared.mode.Stop.{Stop}
@@ -46,8 +46,8 @@ call_verdict (call.BadArgument offset) = BadArgument offset
 call_verdict call.NoMemory = NoMemory
 
 -- it tells some outcome
-abbrev pub IsTold : Program → Ty → Outcome Spelling → Type 0
-IsTold P t told = (o : ideal.Outcome) × SpellsOutcome P t o told
+abbrev pub TellsSomeOutcome : Program → Ty → Outcome Spelling → Type 0
+TellsSomeOutcome P t told = (o : ideal.Outcome) × SpellsOutcome P t o told
 
 -- The verdict is told with the outcome, whose value has type t, or with its cause or its offset. Where the source failed or memory was
 -- wanting nothing is told.
@@ -60,13 +60,13 @@ Tells P t verdict (Err ReadFault) = ⊤
 Tells P t verdict (Err NoMemory) = ⊤
 
 -- the call of function f answers the verdict
-abbrev pub Answers : Program → ℕ → checked.Verdict → Result (Outcome Spelling) Verdict → Type 0
-Answers P f = Tells P (function_at P f).result
+abbrev pub AnswersVerdict : Program → ℕ → checked.Verdict → Result (Outcome Spelling) Verdict → Type 0
+AnswersVerdict P f = Tells P (function_at P f).result
 
 -- the same, with the ring beside the outcome
 abbrev pub AnswersWithRing : Program → ℕ → checked.Verdict → Result (Outcome Spelling × Kept) Verdict → Type 0
-AnswersWithRing P f verdict (Ok r) = Answers P f verdict (Ok r.0)
-AnswersWithRing P f verdict (Err e) = Answers P f verdict (Err e)
+AnswersWithRing P f verdict (Ok r) = AnswersVerdict P f verdict (Ok r.0)
+AnswersWithRing P f verdict (Err e) = AnswersVerdict P f verdict (Err e)
 
 -- the count of faults rose where the source failed, and there alone
 abbrev pub VerdictCause : {T : Type 0} → (before now : ℕ) → Result T Verdict → Type 0
@@ -85,7 +85,7 @@ SaysTrueOn hash P f state argument k bytes n recent (Ok r) =
     (v a : Value) → IsIdeal P.types P.state v → IsIdeal P.types (argument_type P f) a
     → state ≡ spelling (projection hash P P.state v) → argument ≡ spelling (projection hash P (argument_type P f) a)
     → (o : ideal.Outcome) × SpellsOutcome P (function_at P f).result o r.0
-    × TrueOrSplit hash P f (function_at P f).result (call_of v a) k (offered_pieces (offered P.format.limit bytes n recent)) o
+    × TrueOrSplit hash P f (function_at P f).result (call_values v a) k (offered_pieces (offered P.format.limit bytes n recent)) o
 SaysTrueOn hash P f state argument k bytes n recent (Err refusal) = ⊤
 
 abbrev pub SaysTrue : Hash → Program → ℕ → (state argument : List ℕ) → ℕ → List ℕ → Result (Outcome Spelling) Verdict → Type 0
@@ -94,5 +94,5 @@ SaysTrue hash P f state argument k proof (Ok told) =
     → state ≡ spelling (projection hash P P.state v) → argument ≡ spelling (projection hash P (argument_type P f) a)
     → (o : ideal.Outcome) × SpellsOutcome P (function_at P f).result o told
     × ((n : ℕ) × (header P.format proof ≡ Some n)
-    × TrueOrSplit hash P f (function_at P f).result (call_of v a) k (offered_pieces (offered P.format.limit (drop 6 proof) n [])) o)
+    × TrueOrSplit hash P f (function_at P f).result (call_values v a) k (offered_pieces (offered P.format.limit (drop 6 proof) n [])) o)
 SaysTrue hash P f state argument k proof (Err refusal) = ⊤

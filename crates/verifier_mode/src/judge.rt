@@ -20,7 +20,7 @@ ghost use Rattle.proof_stream.specs.TakenFrames.{HeadCause, TakesHeader};
 ghost use Rattle.reuse_buffer.specs.Kept.{kept};
 ghost use Rattle.verifier_mode.specs.CallParts.{ArePut};
 ghost use Rattle.verifier_mode.specs.Spelled.{IsSpelledAs, OutcomeStands};
-ghost use Rattle.verifier_mode.specs.Verdicts.{Answers, AnswersWithRing, IsTold, SaysTrue, SaysTrueOn, VerdictCause};
+ghost use Rattle.verifier_mode.specs.Verdicts.{AnswersVerdict, AnswersWithRing, TellsSomeOutcome, SaysTrue, SaysTrueOn, VerdictCause};
 
 use crate::checked_runs::checked_run;
 use crate::verdict::{CallFault, Verdict};
@@ -55,9 +55,9 @@ pub fn verify<H: Hash32, S: Source>(
     requires role { TakesState (program_of code.now) role.0 }
     requires fuel_fits { fuel ≤ 10 ^ 12 }
     ensures verdict { ForSome (S.left proof.old) (λ bytes. let P = program_of code.now in
-        Answers P role.0 (checked.verdict H.hash P (argument_type P role.0) role.0 state.now argument.now fuel bytes) result) }
+        AnswersVerdict P role.0 (checked.verdict H.hash P (argument_type P role.0) role.0 state.now argument.now fuel bytes) result) }
     ensures headline { ForSome (S.left proof.old) (λ bytes. SaysTrue H.hash (program_of code.now) role.0 state.now argument.now fuel bytes result) }
-    ensures told { IfOk result (IsTold (program_of code.now) (function_at (program_of code.now) role.0).result) }
+    ensures told { IfOk result (TellsSomeOutcome (program_of code.now) (function_at (program_of code.now) role.0).result) }
     ensures end { ForSome (S.left proof.old) (λ bytes. IfOk result (λ _. S.left proof.new ≡ Some [])) }
     ensures faults { VerdictCause (S.faults proof.old) (S.faults proof.new) result }
     ensures rest { S.rest proof.new ≡ S.rest proof.old }
@@ -93,7 +93,7 @@ pub fn verify_on<H: Hash32, S: Source>(
         SaysTrueOn H.hash (program_of code.now) role.0 state.now argument.now fuel bytes ring.size recent result) }
     ensures ring { (recent : List (List ℕ)) → ring ≡ kept ring.size recent → ForSome (S.left proof.old) (λ bytes.
         IfOk result (λ told. told.1 ≡ kept ring.size (after_bytes (program_of code.now).format.limit bytes ring.size recent))) }
-    ensures told { IfOk result (λ told. IsTold (program_of code.now) (function_at (program_of code.now) role.0).result told.0) }
+    ensures told { IfOk result (λ told. TellsSomeOutcome (program_of code.now) (function_at (program_of code.now) role.0).result told.0) }
     ensures end { (recent : List (List ℕ)) → ring ≡ kept ring.size recent → ForSome (S.left proof.old) (λ bytes. IfOk result (λ _. S.left proof.new ≡ Some [])) }
     ensures faults { VerdictCause (S.faults proof.old) (S.faults proof.new) result }
     ensures rest { S.rest proof.new ≡ S.rest proof.old }
@@ -158,8 +158,8 @@ fn judge_file<H: Hash32, S: Source>(
     requires limit { HasLimit (program_of code.now) (store_lent store.old) }
     ensures verdict { (vs : Values) → AllStandFor VerifierNodes (program_of code.now).types (nodes_in store.old) (numbers_of args.now) (function_at (program_of code.now) role.0).parameters vs
         → ForSome (S.left proof.old) (λ bytes. let P = program_of code.now in
-        Answers P role.0 (checked.with_header H.hash P (header P.format bytes) role.0 vs fuel bytes) result) }
-    ensures told { IfOk result (IsTold (program_of code.now) (function_at (program_of code.now) role.0).result) }
+        AnswersVerdict P role.0 (checked.with_header H.hash P (header P.format bytes) role.0 vs fuel bytes) result) }
+    ensures told { IfOk result (TellsSomeOutcome (program_of code.now) (function_at (program_of code.now) role.0).result) }
     ensures end { ForSome (S.left proof.old) (λ bytes. IfOk result (λ _. S.left proof.new ≡ Some [])) }
     ensures faults { VerdictCause (S.faults proof.old) (S.faults proof.new) result }
     ensures rest { S.rest proof.new ≡ S.rest proof.old }
@@ -204,7 +204,7 @@ fn judge_call<H: Hash32, S: Source>(
         → AnswersWithRing (program_of code.now) role.0 (checked.judge H.hash (program_of code.now) role.0 vs fuel bytes ring.size recent) result }
     ensures ring { (bytes : List ℕ) (recent : List (List ℕ)) → S.left proof.old ≡ Some bytes → ring ≡ kept ring.size recent
         → IfOk result (λ told. told.1 ≡ kept ring.size (after_bytes (program_of code.now).format.limit bytes ring.size recent)) }
-    ensures told { IfOk result (λ told. IsTold (program_of code.now) (function_at (program_of code.now) role.0).result told.0) }
+    ensures told { IfOk result (λ told. TellsSomeOutcome (program_of code.now) (function_at (program_of code.now) role.0).result told.0) }
     ensures end { (bytes : List ℕ) (recent : List (List ℕ)) → S.left proof.old ≡ Some bytes → ring ≡ kept ring.size recent
         → IfOk result (λ _. S.left proof.new ≡ Some []) }
     ensures faults { VerdictCause (S.faults proof.old) (S.faults proof.new) result }

@@ -16,7 +16,7 @@ ghost use Rattle.value_store.specs.Standing.{Keeps, StandsFor, VerifierNodes};
 ghost use Rattle.value_store.specs.declared.node.Ref.{Ref as Refers};
 ghost use Rattle.mode_vm.specs.Openings.{Counts, OpensSome};
 ghost use Rattle.verifier_mode.specs.LastReads.{IsRead, KnowsLast};
-ghost use Rattle.verifier_mode.specs.Faults.{IsTold, end_told, fault_cause, stop_cause};
+ghost use Rattle.verifier_mode.specs.Faults.{FaultTellsCause, end_told, fault_cause, stop_cause};
 ghost use Rattle.verifier_mode.specs.Takings.{PieceOpens, behind_piece};
 
 use crate::last_read::{LastRead, value_again};
@@ -54,7 +54,7 @@ pub(crate) fn open_piece<N: Nodes>(
         → PieceOpens (types_meaning types.now) (N.nodes store.new) (type_at (types_by_number types.now) ty)
         (take_piece hash (types_meaning types.now) (type_at (types_by_number types.now) ty) asked.want.0 asked.place (Offers piece.now left more) w) (behind_piece asked.place left more) result }
     ensures read { IfOk result (IsRead types.now (N.nodes store.new) ty piece.now) }
-    ensures told { IsTold result }
+    ensures told { FaultTellsCause result }
     ensures keeps { Keeps (N.nodes store.old) (N.nodes store.new) }
     ensures lent { N.lent store.new ≡ N.lent store.old }
 {

@@ -3,7 +3,7 @@ use Rattle.std.proofs.Common.{◌≡◌, ℕ, zero, suc, false, arith, List, Res
 use Rattle.std.proofs.lemmas.Grind.{common_steps}
 use Rattle.session_meaning.specs.Messages as meant
 use Rattle.session_meaning.specs.Messages.{Request, Reply}
-use Rattle.wire_form.specs.TakenFields.{FieldFaults, Faults, SaysOf, Takes, TakesNothing}
+use Rattle.wire_form.specs.TakenFields.{FieldFaults, Faults, SaysOf, TakesField, TakesNothing}
 use Rattle.wire_form.specs.declared.body.BodyFault.{BodyFault}
 use Rattle.wire_form.specs.declared.body.BodyFault.TheVariants.{At, NoMemory}
 
@@ -21,7 +21,7 @@ of_field field NoMemory body go is faults = tt
 -- a fault of a field within another one is handed on
 pub handed_field : {A X R G : Type 0} (said : R → X) (behind : R → List ℕ) (field : (X → List ℕ → meant.Body A) → meant.Body A)
     (inner : G → meant.Body A) (within : (X → List ℕ → meant.Body A) → G) (fault : BodyFault) (result : Result R BodyFault)
-    → ((go : X → List ℕ → meant.Body A) → field go ≡ inner (within go)) → IsErrAnd result (λ e. e ≡ fault) → FieldFaults inner fault → Takes said behind field result
+    → ((go : X → List ℕ → meant.Body A) → field go ≡ inner (within go)) → IsErrAnd result (λ e. e ≡ fault) → FieldFaults inner fault → TakesField said behind field result
 handed_field said behind field inner within fault (Ok taken) is handed faults = absurd handed
 handed_field said behind field inner within (At offset) (Err e) is handed faults =
     let P : BodyFault → Type 0 = λ e. FieldFaults field e in subst P (sym handed) (λ go. is go ∙ faults (within go))

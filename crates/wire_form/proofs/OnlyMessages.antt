@@ -4,6 +4,7 @@ use Rattle.std.proofs.lemmas.List.{append-nil, take_all, drop_all}
 use Rattle.std.specs.Int.{w16, w32, w64, to_be_bytes}
 use Rattle.std.proofs.lemmas.Nat.{from_be_bytes-to_be_bytes_4}
 use Rattle.core_terms.specs.Spelling.{AreBytes}
+use Rattle.core_terms.proofs.ByteLists.{are_bytes}
 use Rattle.session_meaning.specs.Messages as meant
 use Rattle.session_meaning.specs.MessageFields as message_fields
 use Rattle.session_meaning.specs.Messages.{message_limit}
@@ -11,11 +12,6 @@ use Rattle.session_meaning.specs.ReplyLaws.{HasArgumentBytes}
 use Rattle.session_meaning.proofs.OnlyMessages.{only_replies_are_read, only_requests_are_read}
 use Rattle.wire_form.specs.Incoming.{length_field}
 use Rattle.wire_form.proofs.Coming.{whole_read}
-
--- items that are below 256 are bytes
-are_bytes : (bytes : List ℕ) → ((i : ℕ) → get_or bytes i 0 < 256) → AreBytes bytes
-are_bytes [] below = tt
-are_bytes (b ∷ bytes) below = (below 0, are_bytes bytes (λ i. below (suc i)))
 
 -- so are those of a length field
 framed : (body : List ℕ) → AreBytes body → AreBytes (meant.message body)

@@ -20,9 +20,9 @@ FieldFaults {G = G} field (At offset) = (go : G) → field go ≡ meant.FaultAt 
 FieldFaults field NoMemory = ⊥
 
 -- A field is gone on with, by what it says and by the bytes behind it; or it has the first fault.
-abbrev pub Takes : {A X R : Type 0} → (R → X) → (R → List ℕ) → ((X → List ℕ → meant.Body A) → meant.Body A) → Result R BodyFault → Type 0
-Takes {A = A} {X = X} said behind field (Ok taken) = (go : X → List ℕ → meant.Body A) → field go ≡ go (said taken) (behind taken)
-Takes said behind field (Err fault) = FieldFaults field fault
+abbrev pub TakesField : {A X R : Type 0} → (R → X) → (R → List ℕ) → ((X → List ℕ → meant.Body A) → meant.Body A) → Result R BodyFault → Type 0
+TakesField {A = A} {X = X} said behind field (Ok taken) = (go : X → List ℕ → meant.Body A) → field go ≡ go (said taken) (behind taken)
+TakesField said behind field (Err fault) = FieldFaults field fault
 
 -- the same of a field that says nothing
 abbrev pub TakesNothing : {A R : Type 0} → (R → List ℕ) → ((List ℕ → meant.Body A) → meant.Body A) → Result R BodyFault → Type 0

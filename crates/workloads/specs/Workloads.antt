@@ -4,7 +4,7 @@ use Rattle.core_terms.specs.Formats.{Hash}
 use Rattle.core_terms.specs.Terms.{Program}
 use Rattle.core_terms.specs.Values.{Value, IntV, PairV}
 use Rattle.ideal_meaning.specs.Frames.{Frame, proof_file}
-use Rattle.ideal_meaning.specs.Headline.{call_of}
+use Rattle.ideal_meaning.specs.Headline.{call_values}
 use Rattle.ideal_meaning.specs.Ideal.{Done, Outcome, bytes_of, honest_pieces, ideal, outcome}
 use Rattle.ideal_meaning.specs.Run.{first_in}
 use Rattle.ideal_meaning.specs.RunFrames.{run_frames, again_in, fresh_in}
@@ -32,16 +32,16 @@ state_behind s o = s
 
 -- how a call of function f on a state and an argument ends
 abbrev pub outcome_of : Program → (f : ℕ) → (state argument : Value) → Outcome
-outcome_of P f s a = outcome (ideal P f (call_of s a) call_fuel)
+outcome_of P f s a = outcome (ideal P f (call_values s a) call_fuel)
 
 -- Calls whose proof files ask for n pieces to be kept.
 module _ (hash : Hash) (P : Program) (n : ℕ) where
   -- the frames of the honest proof of a call, with no piece that was kept before, and its proof file
   abbrev pub frames_of : (f : ℕ) → (state argument : Value) → List Frame
-  frames_of f s a = run_frames hash P f (call_of s a) call_fuel n []
+  frames_of f s a = run_frames hash P f (call_values s a) call_fuel n []
 
   abbrev pub file_of : (f : ℕ) → (state argument : Value) → List ℕ
-  file_of f s a = proof_file P.format n (bytes_of (honest_pieces hash P f (call_of s a) call_fuel))
+  file_of f s a = proof_file P.format n (bytes_of (honest_pieces hash P f (call_values s a) call_fuel))
 
   -- the sums with this call added
   abbrev pub add_call : Tally → (f : ℕ) → (state argument : Value) → Tally

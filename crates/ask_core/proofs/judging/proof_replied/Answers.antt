@@ -10,12 +10,12 @@ use Rattle.core_terms.specs.declared.program.Program.{Program}
 use Rattle.ideal_meaning.specs.Ideal as ideal
 use Rattle.mode_vm.specs.Meanings.{program_of}
 use Rattle.ideal_meaning.specs.SpelledOutcomes.{SpellsOutcome}
-use Rattle.verifier_mode.specs.Verdicts.{IsTold}
+use Rattle.verifier_mode.specs.Verdicts.{TellsSomeOutcome}
 use Rattle.session_meaning.specs.Calls.{reads_state, state_made}
 use Rattle.session_meaning.specs.Client.{state_behind}
 use Rattle.session_meaning.specs.Messages as message
 use Rattle.verifier_mode.specs.Verdicts.{Tells}
-use Rattle.ask_core.specs.Replies.{Follows, IsRefused, IsReplied}
+use Rattle.ask_core.specs.Replies.{StepFollows, IsRefused, IsReplied}
 use Rattle.ask_core.specs.declared.standing.Known.{Known}
 use Rattle.ask_core.specs.declared.standing.Standing.TheVariants.{Idle, Calling}
 use Rattle.ask_core.specs.declared.told.Told.TheVariants.{Outcome}
@@ -48,8 +48,8 @@ state_behind-requires-clause-told g c =
     let role = c.in-Some.role.now in
     let called = call_of_same c.program.result.now (program_in code) c.program.ensures asked.role role c.in-Some.ensures.called c.in-Some.ensures.shape in
     let told = c.in-Ok.outcome in
-    subst (λ (p : Program). IsTold (meaning p) (type_at (types_of p) role.result) told) (sym c.program-in-Ok.ensures)
-    (subst (λ t. IsTold P t told) (result_is P (role_of (types_of (program_in code)) role) called.2) c.in-Ok.ensures.told)
+    subst (λ (p : Program). TellsSomeOutcome (meaning p) (type_at (types_of p) role.result) told) (sym c.program-in-Ok.ensures)
+    (subst (λ t. TellsSomeOutcome P t told) (result_is P (role_of (types_of (program_in code)) role) called.2) c.in-Ok.ensures.told)
 
 pub returns-in_ok-state-in-Ok : goal.returns-in_ok-state-in-Ok
 returns-in_ok-state-in-Ok g c client m r =
@@ -68,7 +68,7 @@ returns-in_ok-state-in-Ok g c client m r =
     let replied : Replied = record { standing = Some (Idle behind); told = Ok (Outcome told) } in
     let left = ap Some (c.new-proof.ensures.left ∙ c.as_bytes.ensures) in
     let t = (function_at P role.function.0).result in
-    each_call P known asked (λ m. Follows hash P m client (message.Proof c.args.session frames) replied) (λ k a is_known is_asked.
+    each_call P known asked (λ m. StepFollows hash P m client (message.Proof c.args.session frames) replied) (λ k a is_known is_asked.
     let ring = ring_is hash P known asked k a is_known is_asked meant_role called.0 called.2 called.1 c.args.session frames client in
     accepted hash P known asked k a is_known is_asked meant_role called.0 called.2 called.1 c.args.session frames client told state c.in-Ok.ring replied behind
     (subst (λ v. Tells P t v (Ok told))
@@ -93,7 +93,7 @@ returns-in-Err g c =
     let t = (function_at P role.function.0).result in
     IfOk-weaker c.refused_by.result (IsRefused c.args.session c.in-Err.verdict) (IsReplied hash P (Calling known asked) (message.Proof c.args.session frames))
     (λ replied so client m r.
-    each_call P known asked (λ m. Follows hash P m client (message.Proof c.args.session frames) replied) (λ k a is_known is_asked.
+    each_call P known asked (λ m. StepFollows hash P m client (message.Proof c.args.session frames) replied) (λ k a is_known is_asked.
     let ring = ring_is hash P known asked k a is_known is_asked meant_role called.0 called.2 called.1 c.args.session frames client in
     refused hash P known asked k a is_known is_asked meant_role called.0 called.2 called.1 c.args.session frames client t c.in-Err.verdict replied
     (subst (λ v. Tells P t v (Err c.in-Err.verdict))

@@ -4,7 +4,7 @@ use Rattle.core_terms.specs.Programs.{meaning, types_of}
 use Rattle.core_terms.specs.RoleViews.{role_kind_of}
 use Rattle.core_terms.specs.TypeTables.{type_at}
 use Rattle.ideal_meaning.specs.SpelledOutcomes.{SpellsOutcome}
-use Rattle.verifier_mode.specs.Verdicts.{IsTold}
+use Rattle.verifier_mode.specs.Verdicts.{TellsSomeOutcome}
 use Rattle.ask_core.proofs.StatesBehind.{pair_lent, state_first, value_lent}
 use Rattle.ask_core.proofs.states.state_behind.Goals as goal
 
@@ -18,7 +18,7 @@ first_spelled-requires-clause-spelled c =
     let p = c.args.program.now in
     value_lent p c.args.role.now c.requires.shape (ap role_kind_of c.in-Update.is) c.types.result.now c.types.ensures c.in-Done.value
     c.as_bytes.result.now c.as_bytes.ensures
-    (subst (λ outcome. IsTold (meaning p) (type_at (types_of p) c.args.role.now.result) outcome) c.in-Done.is c.requires.told)
+    (subst (λ outcome. TellsSomeOutcome (meaning p) (type_at (types_of p) c.args.role.now.result) outcome) c.in-Done.is c.requires.told)
 
 pub returns-in-Update : goal.returns-in-Update
 returns-in-Update c =

@@ -1,7 +1,8 @@
 use Rattle.std.proofs.Common.{None, Err, ap, sym, subst, ◌∙◌}
 use Rattle.std.proofs.lemmas.Result.{err_from_is_err_and}
 use Rattle.code_gen.specs.Programs.{program_in}
-use Rattle.file_commands.specs.Answer.{Asking, unasked_answer, with_asked, with_program_file}
+use Rattle.file_commands.specs.Answer.{Asking, unasked_answer, with_asked}
+use Rattle.file_commands.specs.FileInputs.{with_program_file}
 use Rattle.auth_cli.specs.PreparedClients.{FitProgram, asked_by}
 use Rattle.auth_cli.specs.ToldNumbers.{TellsPort}
 use Rattle.file_commands.specs.ReadPrograms.{named_of}

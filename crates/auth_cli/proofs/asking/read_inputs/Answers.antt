@@ -3,7 +3,9 @@ use Rattle.std.proofs.lemmas.Result.{err_from_is_err_and}
 use Rattle.core_terms.specs.Programs.{meaning}
 use Rattle.lam_outside.specs.Told.{Contents}
 use Rattle.printed_lines.specs.declared.refusal.Argument.TheVariants.{Port}
-use Rattle.file_commands.specs.Answer.{Answer, Asking, with_asked, with_number, with_script_file, with_state_file}
+use Rattle.file_commands.specs.Answer.{Asking, with_asked, with_script_file}
+use Rattle.file_commands.specs.FileInputs.{with_number, with_state_file}
+use Rattle.file_commands.specs.AnswerForms.{Answer}
 use Rattle.file_commands.specs.Arguments.{most_port, positive_within}
 use Rattle.file_commands.specs.FueledRoles.{NamedProgram}
 use Rattle.auth_cli.specs.PreparedClients.{asked_with}

@@ -2,7 +2,8 @@ use Rattle.std.proofs.Common.{map, sym, ap, ◌∙◌}
 use Rattle.std.proofs.lemmas.Result.{err_from_is_err_and}
 use Rattle.ask_script.specs.ScriptAnswers.{step_meant}
 use Rattle.printed_lines.specs.declared.refusal.Argument.TheVariants.{Script}
-use Rattle.file_commands.specs.Answer.{max_file, with_file, with_script}
+use Rattle.file_commands.specs.Answer.{with_script}
+use Rattle.file_commands.specs.FileInputs.{max_file, with_file}
 use Rattle.file_commands.specs.ReadPrograms.{named_of}
 use Rattle.auth_cli.proofs.AskReading.{goes_on_behind}
 use Rattle.file_commands.proofs.Steps.{halts_first}

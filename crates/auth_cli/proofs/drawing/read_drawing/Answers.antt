@@ -1,7 +1,8 @@
 use Rattle.std.proofs.Common.{None, Err, ap, ◌∙◌}
 use Rattle.std.proofs.lemmas.Result.{err_from_is_err_and}
 use Rattle.code_gen.specs.Programs.{program_in}
-use Rattle.file_commands.specs.Answer.{undrawn_answer, with_drawn, with_program_file}
+use Rattle.file_commands.specs.Answer.{undrawn_answer, with_drawn}
+use Rattle.file_commands.specs.FileInputs.{with_program_file}
 use Rattle.file_commands.specs.ReadPrograms.{named_of}
 use Rattle.file_commands.specs.Reaching.{without}
 use Rattle.file_commands.specs.RolesCalled.{role_of}

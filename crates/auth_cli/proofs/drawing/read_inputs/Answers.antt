@@ -2,7 +2,10 @@ use Rattle.std.proofs.Common.{ℕ, Option, None, sym, subst, ◌∙◌}
 use Rattle.std.proofs.lemmas.Result.{err_from_is_err_and}
 use Rattle.lam_outside.specs.Told.{Contents}
 use Rattle.printed_lines.specs.declared.refusal.Argument.TheVariants.{Port}
-use Rattle.file_commands.specs.Answer.{Answer, Drawing, with_drawn, with_fueled_role, with_number, with_role_call}
+use Rattle.file_commands.specs.Answer.{Drawing, with_drawn}
+use Rattle.file_commands.specs.RoleInputs.{with_fueled_role, with_role_call}
+use Rattle.file_commands.specs.FileInputs.{with_number}
+use Rattle.file_commands.specs.AnswerForms.{Answer}
 use Rattle.file_commands.specs.Arguments.{most_port, positive_within}
 use Rattle.file_commands.specs.FueledRoles.{FueledRole}
 use Rattle.file_commands.specs.ReadPrograms.{named_of}

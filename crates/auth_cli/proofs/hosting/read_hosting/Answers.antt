@@ -1,6 +1,7 @@
 use Rattle.std.proofs.Common.{None, refl, ap, sym, subst}
 use Rattle.code_gen.specs.Programs.{program_in}
-use Rattle.file_commands.specs.Answer.{unhosted_answer, with_program_file, with_serving_numbers}
+use Rattle.file_commands.specs.Answer.{unhosted_answer, with_serving_numbers}
+use Rattle.file_commands.specs.FileInputs.{with_program_file}
 use Rattle.file_commands.specs.declared.report.Halt.TheVariants.{NoMemory}
 use Rattle.file_commands.proofs.Reached.{is_missing}
 use Rattle.file_commands.proofs.Steps.{hand_halts}

@@ -1,6 +1,7 @@
 use Rattle.std.proofs.Common.{◌≡◌, Option, None, Err, inl, inr, refl, sym, subst}
 use Rattle.command_words.specs.declared.command.Command.TheVariants.{Mirror}
-use Rattle.file_commands.specs.Answer.{Answer, Mirroring, unmirrored_answer, with_mirroring}
+use Rattle.file_commands.specs.Answer.{Mirroring, unmirrored_answer, with_mirroring}
+use Rattle.file_commands.specs.AnswerForms.{Answer}
 use Rattle.file_commands.specs.declared.report.Report.{Report}
 use Rattle.auth_cli.specs.PreparedMirrors.{HasGreeting, TellMirrorNumbers, mirroring_of}
 use Rattle.auth_cli.specs.declared.mirroring.PreparedMirror.{PreparedMirror}

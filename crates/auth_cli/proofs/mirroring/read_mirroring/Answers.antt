@@ -2,7 +2,8 @@ use Rattle.std.proofs.Common.{ℕ, None, ap, sym, subst, ◌∙◌}
 use Rattle.std.proofs.lemmas.Result.{err_from_is_err_and}
 use Rattle.command_words.specs.declared.command.Command.TheVariants.{Mirror}
 use Rattle.printed_lines.specs.declared.refusal.Argument.TheVariants.{Connections, Port}
-use Rattle.file_commands.specs.Answer.{Mirroring, unmirrored_answer, with_mirror_file, with_mirroring, with_number}
+use Rattle.file_commands.specs.Answer.{Mirroring, unmirrored_answer, with_mirror_file, with_mirroring}
+use Rattle.file_commands.specs.FileInputs.{with_number}
 use Rattle.file_commands.specs.Arguments.{most_links, most_port, positive_within}
 use Rattle.file_commands.specs.Reaching.{without}
 use Rattle.auth_cli.specs.PreparedMirrors.{TellMirrorNumbers, mirroring_by, mirroring_of}

@@ -5,7 +5,9 @@ use Rattle.core_terms.specs.Programs.{meaning}
 use Rattle.core_terms.specs.Values.{Value}
 use Rattle.core_terms.specs.declared.program.Program.{Program}
 use Rattle.file_commands.specs.StoredStates.{IsStoredState}
-use Rattle.file_commands.specs.Answer.{Answer, Serving, first_shared, serving_of, with_image_file, with_serving_numbers}
+use Rattle.file_commands.specs.Answer.{Serving, first_shared, serving_of, with_serving_numbers}
+use Rattle.file_commands.specs.FileInputs.{with_image_file}
+use Rattle.file_commands.specs.AnswerForms.{Answer}
 use Rattle.auth_cli.specs.PreparedServers.{BeginsWith, numbers_of, with_beginning}
 use Rattle.file_commands.specs.ReadPrograms.{digested_of}
 use Rattle.file_commands.specs.Reaching.{without}

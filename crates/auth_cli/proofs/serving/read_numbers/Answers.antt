@@ -1,7 +1,9 @@
 use Rattle.std.proofs.Common.{ℕ, List, Option, ◌∙◌}
 use Rattle.std.proofs.lemmas.Result.{err_from_is_err_and}
 use Rattle.printed_lines.specs.declared.refusal.Argument.TheVariants.{Connections, Port, Slice}
-use Rattle.file_commands.specs.Answer.{Answer, ServingNumbers, with_number, with_serving_numbers}
+use Rattle.file_commands.specs.Answer.{ServingNumbers, with_serving_numbers}
+use Rattle.file_commands.specs.FileInputs.{with_number}
+use Rattle.file_commands.specs.AnswerForms.{Answer}
 use Rattle.file_commands.specs.Arguments.{most_links, most_port, most_slice, positive_within}
 use Rattle.auth_cli.specs.PreparedServers.{numbers_of}
 use Rattle.file_commands.proofs.LineSteps.{first_halts, goes_as}

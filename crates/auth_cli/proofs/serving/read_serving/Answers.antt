@@ -1,7 +1,9 @@
 use Rattle.std.proofs.Common.{None, Err, ap, sym, subst, ◌∙◌}
 use Rattle.std.proofs.lemmas.Result.{err_from_is_err_and}
 use Rattle.code_gen.specs.Programs.{program_in}
-use Rattle.file_commands.specs.Answer.{Answer, Serving, unserved_answer, with_program_file}
+use Rattle.file_commands.specs.Answer.{Serving, unserved_answer}
+use Rattle.file_commands.specs.FileInputs.{with_program_file}
+use Rattle.file_commands.specs.AnswerForms.{Answer}
 use Rattle.auth_cli.specs.PreparedServers.{IsPrepared, with_beginning}
 use Rattle.auth_cli.specs.ToldNumbers.{TellNumbers}
 use Rattle.file_commands.specs.ReadPrograms.{digested_of, named_of}

@@ -5,7 +5,7 @@ use Rattle.object_meaning.proofs.ReadsWellFormed.{reads_are_well_formed}
 use Rattle.object_reader.specs.ObjectViews.{object_of}
 use Rattle.code_check.specs.ObjectParts.{parts_program}
 use Rattle.code_check.specs.declared.parts.Parts.{Parts}
-use Rattle.code_check.proofs.ReadObjects.{are_bytes}
+use Rattle.core_terms.proofs.ByteLists.{are_bytes}
 use Rattle.code_check.proofs.acceptance.parts_in.Goals as goal
 
 pub parts_of-requires : goal.parts_of-requires

@@ -1,4 +1,4 @@
-use Rattle.code_check.proofs.RoleTests.{same_decides}
+use Rattle.core_terms.proofs.DecidedTypes.{same_decides}
 use Rattle.code_check.proofs.shapes.is_state.Goals as goal
 
 pub returns : goal.returns

@@ -1,4 +1,4 @@
-use Rattle.declared_types.proofs.RolesOfHeads.{same_decides}
+use Rattle.core_terms.proofs.DecidedTypes.{same_decides}
 use Rattle.declared_types.proofs.roles.is_same.Goals as goal
 
 pub returns : goal.returns

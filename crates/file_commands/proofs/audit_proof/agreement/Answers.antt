@@ -1,6 +1,7 @@
 use Rattle.std.proofs.Common.{sym, ap, ◌∙◌}
 use Rattle.printed_lines.specs.Lines.{agrees_line}
-use Rattle.file_commands.specs.Answer.{agreeing, says}
+use Rattle.file_commands.specs.Answer.{agreeing}
+use Rattle.file_commands.specs.AnswerForms.{says}
 use Rattle.file_commands.specs.Halting.{ending_status}
 use Rattle.file_commands.proofs.audit_proof.agreement.Goals as goal
 

@@ -5,7 +5,10 @@ use Rattle.lam_outside.specs.Told.{Contents}
 use Rattle.lam_outside.specs.FileSteps.{StartsAt}
 use Rattle.core_terms.specs.declared.program.Program.{Program}
 use Rattle.code_gen.specs.Programs.{program_in}
-use Rattle.file_commands.specs.Answer.{Answer, call_audit_answer, with_bytes, with_fueled_role}
+use Rattle.file_commands.specs.Answer.{call_audit_answer}
+use Rattle.file_commands.specs.RoleInputs.{with_fueled_role}
+use Rattle.file_commands.specs.FileInputs.{with_bytes}
+use Rattle.file_commands.specs.AnswerForms.{Answer}
 use Rattle.file_commands.specs.CallsInStores.{HoldsCall, HoldsSome, audited_behind, with_called}
 use Rattle.file_commands.specs.FueledRoles.{FueledRole}
 use Rattle.file_commands.specs.Halting.{Finds, HaltsAs}

@@ -4,8 +4,8 @@ use Rattle.core_terms.specs.ProgramTypes.{types_meaning}
 use Rattle.core_terms.specs.Projection.{read_at}
 use Rattle.shallow_codec.specs.ProgramTypes.{ty_of}
 use Rattle.shallow_codec.specs.Unspelled.{IsRead}
-use Rattle.file_commands.specs.Answer.{with_state}
-use Rattle.file_commands.specs.Halting.{GoesOn, InHand}
+use Rattle.file_commands.specs.FileInputs.{with_state}
+use Rattle.file_commands.specs.Halting.{StepGives, InHand}
 use Rattle.file_commands.proofs.StatesRead.{state_goes_on, state_is_refused}
 use Rattle.file_commands.proofs.calls.judge_state.Goals as goal
 
@@ -19,5 +19,5 @@ returns-in-Err-Bad c =
     let id = c.state_type.result in
     let bytes = c.args.bytes.now in
     let bad = subst (λ fault. IsRead {A = Unit {0}} (read_at (types_meaning types) (ty_of types id) bytes) (Err fault)) c.in-Err-Bad.field-0-is c.in-Err-Bad.ensures in
-    subst (λ halt. InHand (GoesOn {T = Unit {0}} (with_state (meaning c.args.program.now) bytes) (λ _. bytes)) (Err halt)) (sym c.into.ensures)
+    subst (λ halt. InHand (StepGives {T = Unit {0}} (with_state (meaning c.args.program.now) bytes) (λ _. bytes)) (Err halt)) (sym c.into.ensures)
     (state_is_refused c.args.program.now types c.types.ensures id c.state_type.ensures.state bytes c.in-Err-Bad.offset bad)

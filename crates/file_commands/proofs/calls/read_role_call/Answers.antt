@@ -1,10 +1,11 @@
 use Rattle.std.proofs.Common.{◌≡◌, Option, sym, subst}
 use Rattle.std.proofs.lemmas.Result.{IfOk-weaker, err_from_is_err_and}
-use Rattle.file_commands.specs.Answer.{Answer, with_fueled_role, with_role_call}
+use Rattle.file_commands.specs.RoleInputs.{with_fueled_role, with_role_call}
+use Rattle.file_commands.specs.AnswerForms.{Answer}
 use Rattle.file_commands.specs.FueledRoles.{FueledRole}
 use Rattle.file_commands.specs.ReadPrograms.{named_of}
 use Rattle.file_commands.specs.RolesCalled.{IsCalled, role_of}
-use Rattle.file_commands.specs.RolesJudged.{call_of, with_named_call}
+use Rattle.file_commands.specs.RolesJudged.{call_meant, with_named_call}
 use Rattle.file_commands.specs.declared.calls.RoleCall.{RoleCall as Call}
 use Rattle.file_commands.proofs.Reached.{hand_reached, reached_as}
 use Rattle.file_commands.proofs.Steps.{follows_on, halts_first, hand_halts}
@@ -16,7 +17,7 @@ returns-in_err-called-clause-goes g c = λ told known.
     let words = c.args.words.now in
     let err = err_from_is_err_and c.from_residual.result c.from_residual.ensures.1 in
     let first = with_fueled_role c.args.callee (named_of p) words.role.now words.fuel.now in
-    halts_first first (λ r go. with_role_call r c.args.state.now words.argument.now told go) (call_of p) c.from_residual.result _ (cc) (hand_halts first (role_of p) _ c.in_err-called.ensures.goes)
+    halts_first first (λ r go. with_role_call r c.args.state.now words.argument.now told go) (call_meant p) c.from_residual.result _ (cc) (hand_halts first (role_of p) _ c.in_err-called.ensures.goes)
 
 pub returns-in_err-called-clause-reached : goal.returns-in_err-called-clause-reached
 returns-in_err-called-clause-reached g c = λ next.
@@ -34,7 +35,7 @@ returns-clause-goes g c = λ told known.
     let p = c.args.program.now in
     let words = c.args.words.now in
     follows_on (with_fueled_role c.args.callee (named_of p) words.role.now words.fuel.now) (role_of p c.in_ok-called.called)
-    (λ r go. with_role_call r c.args.state.now words.argument.now told go) (call_of p) c.read_role_inputs.result c.in_ok-called.ensures.goes (c.read_role_inputs.ensures.goes told known)
+    (λ r go. with_role_call r c.args.state.now words.argument.now told go) (call_meant p) c.read_role_inputs.result c.in_ok-called.ensures.goes (c.read_role_inputs.ensures.goes told known)
 
 pub returns-clause-role : goal.returns-clause-role
 returns-clause-role g c =

@@ -1,10 +1,11 @@
 use Rattle.std.proofs.Common.{ℕ, List, Option, ap, ◌∙◌}
 use Rattle.std.proofs.lemmas.Result.{err_from_is_err_and}
-use Rattle.file_commands.specs.Answer.{Answer, RoleCall, with_role_call}
+use Rattle.file_commands.specs.RoleInputs.{RoleCall, with_role_call}
+use Rattle.file_commands.specs.AnswerForms.{Answer}
 use Rattle.file_commands.specs.FueledRoles.{FueledRole}
 use Rattle.file_commands.specs.Reaching.{without}
 use Rattle.file_commands.specs.RolesCalled.{role_of}
-use Rattle.file_commands.specs.RolesJudged.{call_of, with_spelled}
+use Rattle.file_commands.specs.RolesJudged.{call_meant, with_spelled}
 use Rattle.file_commands.proofs.Reached.{call_step, faults_reached, hand_reached, is_missing}
 use Rattle.file_commands.proofs.Steps.{halted, halts_behind, hand_halts}
 use Rattle.file_commands.proofs.calls.read_role_inputs.Goals as goal
@@ -19,7 +20,7 @@ returns-in_err-state-clause-goes g c = λ told known.
     let r = role_of p c.args.called in
     let argument = c.args.argument.now in
     let err = err_from_is_err_and c.from_residual.result c.from_residual.ensures.1 in
-    halted (with_role_call r c.args.state.now argument told) (call_of p) c.from_residual.result _ (cc)
+    halted (with_role_call r c.args.state.now argument told) (call_meant p) c.from_residual.result _ (cc)
     (λ go. c.in_err-state.ensures.goes told known (behind_state argument r go))
 
 pub returns-in_err-state-clause-reached : goal.returns-in_err-state-clause-reached
@@ -38,7 +39,7 @@ returns-in_err-argument-clause-goes g c = λ told known.
     let argument = c.args.argument.now in
     let state = c.in_ok-state.state.items in
     let err = err_from_is_err_and c.from_residual-in_err-argument.result c.from_residual-in_err-argument.ensures.1 in
-    halted (with_role_call r c.args.state.now argument told) (call_of p) c.from_residual-in_err-argument.result _ (cc)
+    halted (with_role_call r c.args.state.now argument told) (call_meant p) c.from_residual-in_err-argument.result _ (cc)
     (λ go. halts_behind _ _ _ (c.in_ok-state.ensures.goes told known (behind_state argument r go))
     (hand_halts (with_spelled r argument) (λ (a : List ℕ). a) _ c.in_err-argument.ensures (λ a. go (record { role = r; state = state; argument = a }))))
 

@@ -1,7 +1,7 @@
 use Rattle.std.proofs.lemmas.Result.{err_from_is_err_and}
 use Rattle.core_terms.specs.Programs.{meaning}
 use Rattle.printed_lines.specs.declared.refusal.Argument.TheVariants.{State}
-use Rattle.file_commands.specs.Answer.{max_file, with_file, with_state}
+use Rattle.file_commands.specs.FileInputs.{max_file, with_file, with_state}
 use Rattle.file_commands.proofs.Steps.{halts_first}
 use Rattle.file_commands.proofs.calls.read_state_file.Goals as goal
 

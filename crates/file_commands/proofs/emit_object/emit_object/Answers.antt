@@ -1,5 +1,5 @@
 use Rattle.std.proofs.Common.{Some, sym, ◌∙◌, subst}
-use Rattle.file_commands.specs.Answer.{Answer}
+use Rattle.file_commands.specs.AnswerForms.{Answer}
 use Rattle.file_commands.specs.Halting.{InHand}
 use Rattle.file_commands.specs.Storing.{FindsOutput}
 use Rattle.file_commands.proofs.WrittenOutputs.{first_answer}

@@ -1,6 +1,7 @@
 use Rattle.std.proofs.Common.{List, ℕ, Option, Some, ap, sym, subst}
 use Rattle.std.proofs.lemmas.Result.{err_from_is_err_and}
-use Rattle.file_commands.specs.Answer.{Answer, emitted_answer, object_answer, with_listed_file}
+use Rattle.file_commands.specs.Answer.{emitted_answer, object_answer, with_listed_file}
+use Rattle.file_commands.specs.AnswerForms.{Answer}
 use Rattle.file_commands.specs.FueledRoles.{ListedProgram}
 use Rattle.file_commands.specs.ReadPrograms.{listed_of}
 use Rattle.file_commands.specs.Storing.{FindsOutput}

@@ -1,7 +1,8 @@
 use Rattle.std.proofs.Common.{◌≡◌, ◌≤◌, ℕ, false, List, length, ap, sym, ◌∙◌, subst}
 use Rattle.std.proofs.lemmas.Result.{err_from_is_err_and}
 use Rattle.core_terms.specs.Programs.{meaning}
-use Rattle.file_commands.specs.Answer.{with_listed, with_program_bytes}
+use Rattle.file_commands.specs.Answer.{with_listed}
+use Rattle.file_commands.specs.FileInputs.{with_program_bytes}
 use Rattle.file_commands.specs.FilePrograms.{begins_as_object, max_program}
 use Rattle.file_commands.specs.ReadPrograms.{listed_of}
 use Rattle.file_commands.proofs.FileReadings.{text_fits}

@@ -4,14 +4,16 @@ use Rattle.lam_outside.specs.Told.{Contents}
 use Rattle.core_terms.specs.declared.program.Program.{Program}
 use Rattle.code_gen.specs.Programs.{program_in}
 use Rattle.piece_mirror.specs.Tables.{bytes_of}
-use Rattle.file_commands.specs.Answer.{Answer, RoleCall, mirrored_answer, with_fueled_role, with_mirror_file, with_role_call}
+use Rattle.file_commands.specs.Answer.{mirrored_answer, with_mirror_file}
+use Rattle.file_commands.specs.RoleInputs.{RoleCall, with_fueled_role, with_role_call}
+use Rattle.file_commands.specs.AnswerForms.{Answer}
 use Rattle.file_commands.specs.FetchedCalls.{fetched_behind}
 use Rattle.file_commands.specs.FueledRoles.{FueledRole}
 use Rattle.file_commands.specs.Halting.{Finds, HaltsAs}
 use Rattle.file_commands.specs.ReadPrograms.{named_of}
 use Rattle.file_commands.specs.Reaching.{HaltsAtReached, without}
 use Rattle.file_commands.specs.RolesCalled.{IsCalled, role_of}
-use Rattle.file_commands.specs.RolesJudged.{call_of, with_named_call}
+use Rattle.file_commands.specs.RolesJudged.{call_meant, with_named_call}
 use Rattle.file_commands.specs.declared.calls.RoleCall.{RoleCall as Call}
 use Rattle.file_commands.specs.declared.fetch_call.FetchWords.{FetchWords}
 use Rattle.file_commands.specs.declared.roles.CalledRole.{CalledRole}
@@ -31,7 +33,7 @@ abbrev step : FetchWords → Program → Contents → (RoleCall → Option Answe
 step words p files go = with_named_call OfState (named_of p) words.call.role.now words.call.fuel.now words.state.now words.call.argument.now files go
 
 abbrev Goes : FetchWords → Call → Contents → Program → Type 0
-Goes words call files p = (go : RoleCall → Option Answer) → step words p files go ≡ go (call_of p call)
+Goes words call files p = (go : RoleCall → Option Answer) → step words p files go ≡ go (call_meant p call)
 
 abbrev RoleGoes : FetchWords → CalledRole → Program → Type 0
 RoleGoes words called p = (go : FueledRole → Option Answer) → with_fueled_role OfState (named_of p) words.call.role.now words.call.fuel.now go ≡ go (role_of p called)
@@ -42,9 +44,9 @@ no_mirror words p call files goes role =
     let mirror = words.mirror.now in
     let lacking = without mirror files in
     role (λ r. with_role_call r words.state.now words.call.argument.now lacking (behind_call words lacking))
-    ∙ behind (call_step (role_of p call.called) words.call.argument.now) words.state.now mirror files (call_of p call) (behind_call words lacking) refl
+    ∙ behind (call_step (role_of p call.called) words.call.argument.now) words.state.now mirror files (call_meant p call) (behind_call words lacking) refl
     (λ go. sym (role (λ r. with_role_call r words.state.now words.call.argument.now files go)) ∙ goes go)
-    (ap (λ file. with_mirror_file file (λ pieces. Some (mirrored_answer (call_of p call) pieces))) (is_missing mirror files))
+    (ap (λ file. with_mirror_file file (λ pieces. Some (mirrored_answer (call_meant p call) pieces))) (is_missing mirror files))
 
 pub returns-in_err-call-clause-finds : goal.returns-in_err-call-clause-finds
 returns-in_err-call-clause-finds g c = λ told known.
@@ -72,7 +74,7 @@ returns-in_err-mirror-clause-finds g c = λ told known.
     let goes = subst (Goes words call told) c.program-program.ensures (c.in_ok-call.ensures.goes told known) in
     let err = err_from_is_err_and c.from_residual-in_err-mirror.result c.from_residual-in_err-mirror.ensures.1 in
     finds_halt _ c.from_residual-in_err-mirror.result c.in_err-mirror.field-0.0 (cc)
-    (halts_behind _ _ _ (goes (behind_call words told)) (c.in_err-mirror.ensures.goes told (c.in_ok-call.ensures.contents ∙ known) (λ pieces. Some (mirrored_answer (call_of p call) pieces))))
+    (halts_behind _ _ _ (goes (behind_call words told)) (c.in_err-mirror.ensures.goes told (c.in_ok-call.ensures.contents ∙ known) (λ pieces. Some (mirrored_answer (call_meant p call) pieces))))
 
 pub returns-in_err-mirror-clause-reached : goal.returns-in_err-mirror-clause-reached
 returns-in_err-mirror-clause-reached g c =
@@ -95,16 +97,16 @@ returns-clause-finds g c = λ told known.
     let call = c.in_ok-call.call in
     let pieces = bytes_of c.in_ok-mirror.mirror.pieces in
     let answer = subst (Goes words call told) c.program-program.ensures (c.in_ok-call.ensures.goes told known) (behind_call words told)
-    ∙ c.in_ok-mirror.ensures.goes told (c.in_ok-call.ensures.contents ∙ known) (λ pieces. Some (mirrored_answer (call_of p call) pieces)) in
-    subst (λ answer. Finds answer c.fetch_from.result) (sym answer) (report_found (mirrored_answer (call_of p call) pieces) c.fetch_from.result c.fetch_from.ensures.finds)
+    ∙ c.in_ok-mirror.ensures.goes told (c.in_ok-call.ensures.contents ∙ known) (λ pieces. Some (mirrored_answer (call_meant p call) pieces)) in
+    subst (λ answer. Finds answer c.fetch_from.result) (sym answer) (report_found (mirrored_answer (call_meant p call) pieces) c.fetch_from.result c.fetch_from.ensures.finds)
 
 pub returns-clause-cause : goal.returns-clause-cause
 returns-clause-cause g c =
     let p = program_in c.args.code.now in
-    found_judging (Some (mirrored_answer (call_of p c.in_ok-call.call) (bytes_of c.in_ok-mirror.mirror.pieces))) c.fetch_from.result _ _ c.fetch_from.ensures.finds
+    found_judging (Some (mirrored_answer (call_meant p c.in_ok-call.call) (bytes_of c.in_ok-mirror.mirror.pieces))) c.fetch_from.result _ _ c.fetch_from.ensures.finds
     (c.in_ok-mirror.ensures.cause ∙ c.in_ok-call.ensures.cause)
 
 pub returns-clause-reached : goal.returns-clause-reached
 returns-clause-reached g c =
     let p = program_in c.args.code.now in
-    found_reached (mirrored_answer (call_of p c.in_ok-call.call) (bytes_of c.in_ok-mirror.mirror.pieces)) (fetched_behind (named_of p) c.args.words.now) _ _ c.fetch_from.result c.fetch_from.ensures.finds
+    found_reached (mirrored_answer (call_meant p c.in_ok-call.call) (bytes_of c.in_ok-mirror.mirror.pieces)) (fetched_behind (named_of p) c.args.words.now) _ _ c.fetch_from.result c.fetch_from.ensures.finds

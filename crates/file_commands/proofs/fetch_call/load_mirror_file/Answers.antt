@@ -2,7 +2,8 @@ use Rattle.std.proofs.Common.{ap, sym, ◌∙◌}
 use Rattle.std.proofs.lemmas.Result.{err_from_is_err_and}
 use Rattle.piece_mirror.specs.Tables.{bytes_of}
 use Rattle.printed_lines.specs.declared.refusal.Argument.TheVariants.{Mirror}
-use Rattle.file_commands.specs.Answer.{max_file, with_file, with_mirror}
+use Rattle.file_commands.specs.Answer.{with_mirror}
+use Rattle.file_commands.specs.FileInputs.{max_file, with_file}
 use Rattle.file_commands.proofs.MirrorSteps.{goes_on_behind, mirror_inputs}
 use Rattle.file_commands.proofs.Possible.{err_possible, hand_step_possible}
 use Rattle.file_commands.proofs.Steps.{halts_first}

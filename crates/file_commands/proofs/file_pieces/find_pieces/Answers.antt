@@ -2,7 +2,9 @@ use Rattle.std.proofs.Common.{ℕ, List, Option, Some, refl, ap, sym, ◌∙◌,
 use Rattle.std.proofs.lemmas.Result.{err_from_is_err_and}
 use Rattle.core_terms.specs.Programs.{meaning}
 use Rattle.lam_outside.specs.Told.{Contents}
-use Rattle.file_commands.specs.Answer.{Answer, filed_answer, pieces_answer, state_pieces, with_image_file, with_program_file}
+use Rattle.file_commands.specs.Answer.{filed_answer, pieces_answer, state_pieces}
+use Rattle.file_commands.specs.FileInputs.{with_image_file, with_program_file}
+use Rattle.file_commands.specs.AnswerForms.{Answer}
 use Rattle.file_commands.specs.FueledRoles.{NamedProgram}
 use Rattle.file_commands.specs.ReadPrograms.{named_of}
 use Rattle.file_commands.specs.Reaching.{without}

@@ -3,7 +3,9 @@ use Rattle.std.proofs.lemmas.Result.{err_from_is_err_and}
 use Rattle.ads_library.specs.Texts.{library_text}
 use Rattle.code_gen.specs.Programs.{program_in}
 use Rattle.code_gen.specs.declared.code.Code.{Code}
-use Rattle.file_commands.specs.Answer.{Answer, WorkloadNumbers, generated_by, with_numbers, with_source, with_text}
+use Rattle.file_commands.specs.WorkloadAnswers.{WorkloadNumbers, generated_by, with_numbers, with_source}
+use Rattle.file_commands.specs.FileInputs.{with_text}
+use Rattle.file_commands.specs.AnswerForms.{Answer}
 use Rattle.file_commands.specs.GeneratedCalls.{numbers_of}
 use Rattle.file_commands.specs.ReadPrograms.{named_of}
 use Rattle.file_commands.proofs.LineSteps.{found_as, unfound}

@@ -1,6 +1,7 @@
 use Rattle.ads_library.specs.Texts.{library_text}
 use Rattle.command_words.specs.declared.command.Command.TheVariants.{Gen}
-use Rattle.file_commands.specs.Answer.{generated_by, with_numbers, with_source, with_text}
+use Rattle.file_commands.specs.WorkloadAnswers.{generated_by, with_numbers, with_source}
+use Rattle.file_commands.specs.FileInputs.{with_text}
 use Rattle.file_commands.specs.Halting.{FindsLines}
 use Rattle.file_commands.proofs.LineSteps.{hand_possible, lines_on_sink}
 use Rattle.file_commands.proofs.Possible.{told_possible}

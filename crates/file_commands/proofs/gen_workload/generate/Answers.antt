@@ -2,7 +2,10 @@ use Rattle.std.proofs.Common.{◌≡◌, Some, Ok, sym, ◌∙◌, subst}
 use Rattle.std.proofs.lemmas.Result.{err_from_is_err_and}
 use Rattle.code_gen.specs.Programs.{program_in}
 use Rattle.core_terms.specs.Programs.{meaning}
-use Rattle.file_commands.specs.Answer.{generated_by, outcome_told, says, with_ended_init, with_workload, workload_answer}
+use Rattle.file_commands.specs.WorkloadAnswers.{generated_by, with_workload, workload_answer}
+use Rattle.file_commands.specs.OutcomeAnswers.{outcome_told}
+use Rattle.file_commands.specs.RoleInputs.{with_ended_init}
+use Rattle.file_commands.specs.AnswerForms.{says}
 use Rattle.file_commands.specs.GeneratedCalls.{numbers_of}
 use Rattle.file_commands.specs.Halting.{FindsLines, InHand, ending_status}
 use Rattle.file_commands.specs.ReadPrograms.{named_of}

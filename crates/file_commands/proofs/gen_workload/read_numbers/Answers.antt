@@ -2,7 +2,9 @@ use Rattle.std.proofs.Common.{ℕ, List, Option, ◌∙◌}
 use Rattle.std.proofs.lemmas.Result.{err_from_is_err_and}
 use Rattle.core_terms.specs.ProgramFormats.{most_kept_pieces}
 use Rattle.printed_lines.specs.declared.refusal.Argument.TheVariants.{Seed, Count, Number}
-use Rattle.file_commands.specs.Answer.{Answer, WorkloadNumbers, with_number, with_numbers}
+use Rattle.file_commands.specs.WorkloadAnswers.{WorkloadNumbers, with_numbers}
+use Rattle.file_commands.specs.FileInputs.{with_number}
+use Rattle.file_commands.specs.AnswerForms.{Answer}
 use Rattle.file_commands.specs.Arguments.{most_rounds, most_seed}
 use Rattle.number_words.specs.Numbers.{number_within}
 use Rattle.file_commands.specs.GeneratedCalls.{numbers_of}

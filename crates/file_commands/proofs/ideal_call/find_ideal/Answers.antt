@@ -2,7 +2,11 @@ use Rattle.std.proofs.Common.{ℕ, List, Option, Some, ap, sym, ◌∙◌, subst
 use Rattle.std.proofs.lemmas.Result.{err_from_is_err_and}
 use Rattle.lam_outside.specs.Told.{Contents}
 use Rattle.code_gen.specs.Programs.{program_in}
-use Rattle.file_commands.specs.Answer.{Answer, ideal_answer, role_answer, with_ended_call, with_program_file}
+use Rattle.file_commands.specs.Answer.{ideal_answer}
+use Rattle.file_commands.specs.OutcomeAnswers.{role_answer}
+use Rattle.file_commands.specs.RoleInputs.{with_ended_call}
+use Rattle.file_commands.specs.FileInputs.{with_program_file}
+use Rattle.file_commands.specs.AnswerForms.{Answer}
 use Rattle.file_commands.specs.FueledRoles.{NamedProgram}
 use Rattle.file_commands.specs.Halting.{Finds}
 use Rattle.file_commands.specs.ReadPrograms.{named_of}

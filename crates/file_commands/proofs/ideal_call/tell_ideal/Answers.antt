@@ -1,7 +1,8 @@
 use Rattle.std.proofs.Common.{Some, ap, sym, ◌∙◌, subst}
 use Rattle.std.proofs.lemmas.Result.{err_from_is_err_and}
 use Rattle.code_gen.specs.Programs.{program_in}
-use Rattle.file_commands.specs.Answer.{outcome_told, role_answer, with_ended_call}
+use Rattle.file_commands.specs.OutcomeAnswers.{outcome_told, role_answer}
+use Rattle.file_commands.specs.RoleInputs.{with_ended_call}
 use Rattle.file_commands.specs.ReadPrograms.{named_of}
 use Rattle.file_commands.specs.RolesCalled.{EndsIn, HasEnded, role_of}
 use Rattle.file_commands.specs.declared.roles.Callee.TheVariants.{OfState}

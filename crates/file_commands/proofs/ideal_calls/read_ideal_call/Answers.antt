@@ -6,7 +6,9 @@ use Rattle.core_terms.specs.Values.{Value}
 use Rattle.value_store.specs.Standing.{StandsFor}
 use Rattle.value_store.specs.Stores.{nodes_in}
 use Rattle.value_store.specs.declared.node.Ref.{Ref}
-use Rattle.file_commands.specs.Answer.{Answer, with_image_file, with_literal, with_passed}
+use Rattle.file_commands.specs.RoleInputs.{with_passed}
+use Rattle.file_commands.specs.FileInputs.{with_image_file, with_literal}
+use Rattle.file_commands.specs.AnswerForms.{Answer}
 use Rattle.file_commands.specs.CallsInStores.{HoldsCall}
 use Rattle.file_commands.specs.FueledRoles.{FueledRole}
 use Rattle.file_commands.specs.IdealCalls.{IdealCall}

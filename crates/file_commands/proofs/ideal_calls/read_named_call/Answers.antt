@@ -1,6 +1,6 @@
 use Rattle.std.proofs.Common.{ap, sym, ◌∙◌}
 use Rattle.std.proofs.lemmas.Result.{IfOk-weaker, err_from_is_err_and}
-use Rattle.file_commands.specs.Answer.{with_fueled_role, with_ideal_call}
+use Rattle.file_commands.specs.RoleInputs.{with_fueled_role, with_ideal_call}
 use Rattle.file_commands.specs.CallsInStores.{HoldsCall, with_called}
 use Rattle.file_commands.specs.ReadPrograms.{named_of}
 use Rattle.file_commands.specs.Reaching.{without}

@@ -1,7 +1,11 @@
 use Rattle.std.proofs.Common.{List, ℕ, Option, Some, ap, sym, subst}
 use Rattle.std.proofs.lemmas.Result.{err_from_is_err_and}
 use Rattle.code_gen.specs.Programs.{program_in}
-use Rattle.file_commands.specs.Answer.{Answer, initial_answer, storing_answer, with_ended_init, with_program_file}
+use Rattle.file_commands.specs.Answer.{initial_answer}
+use Rattle.file_commands.specs.OutcomeAnswers.{storing_answer}
+use Rattle.file_commands.specs.RoleInputs.{with_ended_init}
+use Rattle.file_commands.specs.FileInputs.{with_program_file}
+use Rattle.file_commands.specs.AnswerForms.{Answer}
 use Rattle.file_commands.specs.FueledRoles.{NamedProgram}
 use Rattle.file_commands.specs.ReadPrograms.{named_of}
 use Rattle.file_commands.specs.Storing.{FindsOutput}

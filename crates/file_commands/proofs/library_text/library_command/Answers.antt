@@ -1,7 +1,8 @@
 use Rattle.std.proofs.Common.{Some}
 use Rattle.ads_library.specs.Texts.{library_text}
 use Rattle.command_words.specs.declared.command.Command.TheVariants.{Library}
-use Rattle.file_commands.specs.Answer.{says, with_source}
+use Rattle.file_commands.specs.WorkloadAnswers.{with_source}
+use Rattle.file_commands.specs.AnswerForms.{says}
 use Rattle.file_commands.specs.declared.status.Status.TheVariants.{Done}
 use Rattle.file_commands.proofs.Ends.{ends_on_sink}
 use Rattle.file_commands.proofs.Possible.{told_possible}

@@ -2,9 +2,10 @@ use Rattle.std.proofs.Common.{◌≡◌, Option, subst}
 use Rattle.std.proofs.lemmas.Result.{err_from_is_err_and}
 use Rattle.core_terms.specs.Values.{AndV, NoV}
 use Rattle.code_gen.specs.Programs.{program_in}
-use Rattle.file_commands.specs.Answer.{Answer, with_ended_init, with_fueled_role, with_passed}
+use Rattle.file_commands.specs.RoleInputs.{with_ended_init, with_fueled_role, with_passed}
+use Rattle.file_commands.specs.AnswerForms.{Answer}
 use Rattle.file_commands.specs.FueledRoles.{FueledRole}
-use Rattle.file_commands.specs.Halting.{GoesOnFor, InHand}
+use Rattle.file_commands.specs.Halting.{StepGivesFor, InHand}
 use Rattle.file_commands.specs.ReadPrograms.{named_of}
 use Rattle.file_commands.specs.RoleCalls.{ended_with}
 use Rattle.file_commands.specs.RolesCalled.{IsCalled, IsEnded, role_of}
@@ -16,7 +17,7 @@ pub returns-in_err-called : goal.returns-in_err-called
 returns-in_err-called c =
     let words = c.args.words.now in
     let err = err_from_is_err_and c.from_residual.result c.from_residual.ensures.1 in
-    subst (λ p. InHand (GoesOnFor (with_ended_init (named_of p) words.role.now words.argument.now words.fuel.now) (IsEnded Init p)) c.from_residual.result) c.program-program.ensures
+    subst (λ p. InHand (StepGivesFor (with_ended_init (named_of p) words.role.now words.argument.now words.fuel.now) (IsEnded Init p)) c.from_residual.result) c.program-program.ensures
     (hand_first (with_fueled_role Init (named_of c.program-program.result.now) words.role.now words.fuel.now) (λ r go. with_passed r words.argument.now (λ a. go (ended_with r (AndV a NoV))))
     (role_of c.program-program.result.now) (IsEnded Init c.program-program.result.now) c.from_residual.result _ (cc) c.in_err-called.ensures.goes)
 

@@ -1,8 +1,8 @@
 use Rattle.std.proofs.Common.{◌≡◌, subst}
 use Rattle.std.proofs.lemmas.Result.{err_from_is_err_and}
-use Rattle.file_commands.specs.Answer.{with_ended_call}
+use Rattle.file_commands.specs.RoleInputs.{with_ended_call}
 use Rattle.file_commands.specs.CallsInStores.{HoldsCall, HoldsSome}
-use Rattle.file_commands.specs.Halting.{GoesOnFor}
+use Rattle.file_commands.specs.Halting.{StepGivesFor}
 use Rattle.file_commands.specs.IdealCalls.{ended_call}
 use Rattle.file_commands.specs.ReadPrograms.{named_of}
 use Rattle.file_commands.specs.Reaching.{FaultsAtReached}
@@ -15,7 +15,7 @@ returns-in_err-call-clause-goes g c = λ told known.
     let words = c.args.words.now in
     let callee = c.args.callee in
     let err = err_from_is_err_and c.from_residual.result c.from_residual.ensures.1 in
-    subst (λ p. GoesOnFor (with_ended_call callee (named_of p) words.role.now c.args.image.now words.argument.now words.fuel.now told) (IsEnded callee p) c.from_residual.result) c.program.ensures
+    subst (λ p. StepGivesFor (with_ended_call callee (named_of p) words.role.now c.args.image.now words.argument.now words.fuel.now told) (IsEnded callee p) c.from_residual.result) c.program.ensures
     (halts_for (with_ended_call callee (named_of c.program.result.now) words.role.now c.args.image.now words.argument.now words.fuel.now told) (IsEnded callee c.program.result.now)
     c.from_residual.result _ (cc) (λ go. c.in_err-call.ensures.goes told known (λ call. go (ended_call call))))
 

@@ -3,7 +3,7 @@ use Rattle.std.proofs.lemmas.Result.{err_from_is_err_and}
 use Rattle.core_terms.specs.Programs.{meaning}
 use Rattle.core_terms.specs.declared.program.Program.{Program}
 use Rattle.code_gen.specs.Programs.{program_in}
-use Rattle.file_commands.specs.Answer.{with_program_file}
+use Rattle.file_commands.specs.FileInputs.{with_program_file}
 use Rattle.file_commands.specs.ReadPrograms.{named_of}
 use Rattle.file_commands.specs.FilePrograms.{IsOfTextOrObject}
 use Rattle.file_commands.proofs.Steps.{halted}

@@ -10,8 +10,8 @@ use Rattle.value_store.specs.Markings.{HasLimit}
 use Rattle.value_store.specs.Standing.{StandsFor}
 use Rattle.value_store.specs.declared.node.Ref.{Ref}
 use Rattle.value_store.specs.Stores.{nodes_in, store_lent}
-use Rattle.file_commands.specs.Answer.{with_literal}
-use Rattle.file_commands.specs.Halting.{GoesOnFor, InHand}
+use Rattle.file_commands.specs.FileInputs.{with_literal}
+use Rattle.file_commands.specs.Halting.{StepGivesFor, InHand}
 use Rattle.file_commands.specs.ReadPrograms.{named_of}
 use Rattle.file_commands.specs.RoleCalls.{ended_with, named_literal, outcome_called}
 use Rattle.file_commands.specs.RolesCalled.{prover_nodes, role_of}
@@ -27,7 +27,7 @@ returns-in_err-argument c =
     let nodes = nodes_in c.put_argument.new.store in
     let stands : Program → Ref → Value → Type 0 = λ q value v. StandsFor (prover_nodes q) (meaning q).types nodes value.0 (type_at (types_of q) c.args.called.argument) v in
     init_halts (program_in c.args.code.now) c.args.called c.requires text {T = Ref} (stands (program_in c.args.code.now)) _ c.from_residual.result (cc)
-    (subst (λ (q : Program). InHand (GoesOnFor (with_literal (named_literal (named_of q) (type_at (types_of q) c.args.called.argument) text)) (stands q)) (Err c.in_err-argument.field-0.0))
+    (subst (λ (q : Program). InHand (StepGivesFor (with_literal (named_literal (named_of q) (type_at (types_of q) c.args.called.argument) text)) (stands q)) (Err c.in_err-argument.field-0.0))
     c.program.ensures c.in_err-argument.ensures.goes)
 
 pub digesting_run-requires-clause-there : goal.digesting_run-requires-clause-there

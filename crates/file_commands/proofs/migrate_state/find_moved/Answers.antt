@@ -4,7 +4,9 @@ use Rattle.core_terms.specs.Programs.{meaning}
 use Rattle.core_terms.specs.Values.{Value}
 use Rattle.images.specs.Images.{Root, image_of}
 use Rattle.printed_lines.specs.declared.refusal.Argument.TheVariants as named
-use Rattle.file_commands.specs.Answer.{Answer, migrated_answer, migration_fault, moved_answer, with_declared_file, with_image}
+use Rattle.file_commands.specs.Answer.{migrated_answer, migration_fault, moved_answer}
+use Rattle.file_commands.specs.FileInputs.{with_declared_file, with_image}
+use Rattle.file_commands.specs.AnswerForms.{Answer}
 use Rattle.file_commands.specs.ReadPrograms.{declared_of, digested_of, named_of}
 use Rattle.file_commands.specs.Reaching.{without}
 use Rattle.file_commands.specs.Storing.{FindsOutput}

@@ -11,7 +11,9 @@ use Rattle.value_store.specs.Markings.{HasLimit}
 use Rattle.value_store.specs.Stores.{nodes_in, store_lent}
 use Rattle.value_store.proofs.ProverNodes.{shown_ideal}
 use Rattle.images.specs.LoadedRoots.{IsStateAt}
-use Rattle.file_commands.specs.Answer.{moved_answer, projected_line, says}
+use Rattle.file_commands.specs.Answer.{moved_answer}
+use Rattle.file_commands.specs.OutcomeAnswers.{projected_line}
+use Rattle.file_commands.specs.AnswerForms.{says}
 use Rattle.file_commands.specs.ReadPrograms.{digested_of, named_of}
 use Rattle.file_commands.specs.Statuses.{MayAnswer}
 use Rattle.file_commands.specs.StoredStates.{IsStoredState}

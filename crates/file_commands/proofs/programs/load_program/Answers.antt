@@ -1,7 +1,7 @@
 use Rattle.std.proofs.Common.{ℕ, Vec}
 use Rattle.std.specs.declared.alloc.Global.{Global}
 use Rattle.std.proofs.lemmas.Result.{err_from_is_err_and}
-use Rattle.file_commands.specs.Answer.{with_program_bytes}
+use Rattle.file_commands.specs.FileInputs.{with_program_bytes}
 use Rattle.file_commands.proofs.FileReadings.{halts_within}
 use Rattle.file_commands.proofs.Steps.{halted}
 use Rattle.file_commands.proofs.programs.load_program.Goals as goal

@@ -1,6 +1,8 @@
 use Rattle.std.proofs.Common.{ℕ, List, Option, sym}
 use Rattle.std.proofs.lemmas.Result.{err_from_is_err_and}
-use Rattle.file_commands.specs.Answer.{Answer, max_program, with_file, with_text}
+use Rattle.file_commands.specs.Answer.{max_program}
+use Rattle.file_commands.specs.FileInputs.{with_file, with_text}
+use Rattle.file_commands.specs.AnswerForms.{Answer}
 use Rattle.file_commands.specs.FueledRoles.{DeclaredProgram}
 use Rattle.file_commands.specs.ReadPrograms.{declared_of}
 use Rattle.file_commands.specs.TextPrograms.{types_text_of_text}

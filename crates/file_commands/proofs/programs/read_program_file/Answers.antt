@@ -1,5 +1,5 @@
 use Rattle.std.proofs.lemmas.Result.{err_from_is_err_and}
-use Rattle.file_commands.specs.Answer.{with_object_or_text, with_program_bytes}
+use Rattle.file_commands.specs.FileInputs.{with_object_or_text, with_program_bytes}
 use Rattle.file_commands.specs.ReadPrograms.{named_of}
 use Rattle.file_commands.proofs.Steps.{halts_first}
 use Rattle.file_commands.proofs.programs.read_program_file.Goals as goal

@@ -1,7 +1,8 @@
 use Rattle.std.proofs.Common.{ap, sym, ◌∙◌, subst}
 use Rattle.std.proofs.lemmas.Result.{err_from_is_err_and}
 use Rattle.code_gen.specs.Programs.{program_in}
-use Rattle.file_commands.specs.Answer.{proved_answer, with_program_file}
+use Rattle.file_commands.specs.Answer.{proved_answer}
+use Rattle.file_commands.specs.FileInputs.{with_program_file}
 use Rattle.file_commands.specs.CallsInStores.{proved_behind}
 use Rattle.file_commands.specs.ReadPrograms.{named_of}
 use Rattle.file_commands.specs.Reaching.{without}

@@ -2,7 +2,10 @@ use Rattle.std.proofs.Common.{◌≡◌, ℕ, List, Option, Some, ap, ◌∙◌,
 use Rattle.std.proofs.lemmas.Result.{err_from_is_err_and}
 use Rattle.lam_outside.specs.Told.{Contents}
 use Rattle.printed_lines.specs.declared.refusal.Argument.TheVariants.{Number}
-use Rattle.file_commands.specs.Answer.{Answer, proof_answer, with_fueled_role, with_ideal_call, with_kept, with_number}
+use Rattle.file_commands.specs.Answer.{proof_answer, with_kept}
+use Rattle.file_commands.specs.RoleInputs.{with_fueled_role, with_ideal_call}
+use Rattle.file_commands.specs.FileInputs.{with_number}
+use Rattle.file_commands.specs.AnswerForms.{Answer}
 use Rattle.number_words.specs.Numbers.{number_within}
 use Rattle.file_commands.specs.CallsInStores.{HoldsCall, HoldsSome, proved_behind}
 use Rattle.file_commands.specs.FueledRoles.{FueledRole}

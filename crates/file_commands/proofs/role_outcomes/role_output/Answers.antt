@@ -10,7 +10,8 @@ use Rattle.value_store.specs.Markings.{HasLimit}
 use Rattle.value_store.specs.Stores.{nodes_in, store_lent}
 use Rattle.value_store.proofs.ProverNodes.{shown_ideal}
 use Rattle.images.specs.LoadedRoots.{IsStateAt}
-use Rattle.file_commands.specs.Answer.{outcome_stored, outcome_told, says}
+use Rattle.file_commands.specs.OutcomeAnswers.{outcome_stored, outcome_told}
+use Rattle.file_commands.specs.AnswerForms.{says}
 use Rattle.file_commands.specs.Halting.{InHand, ending_status}
 use Rattle.file_commands.specs.ReadPrograms.{digested_of}
 use Rattle.file_commands.specs.RoleCalls.{kind_called}

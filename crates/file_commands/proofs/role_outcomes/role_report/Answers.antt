@@ -2,7 +2,7 @@ use Rattle.std.proofs.Common.{ap, ◌∙◌, subst}
 use Rattle.core_terms.specs.Programs.{meaning}
 use Rattle.mode_vm.specs.IdealRuns.{IsOutcome}
 use Rattle.value_store.specs.Stores.{nodes_in}
-use Rattle.file_commands.specs.Answer.{outcome_told}
+use Rattle.file_commands.specs.OutcomeAnswers.{outcome_told}
 use Rattle.file_commands.specs.RoleCalls.{result_called}
 use Rattle.file_commands.specs.RolesCalled.{prover_nodes, role_of}
 use Rattle.file_commands.proofs.RoleReports.{done_told, stands_as_told}

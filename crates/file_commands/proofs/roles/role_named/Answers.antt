@@ -5,8 +5,8 @@ use Rattle.core_terms.specs.RoleTypes.{role_function}
 use Rattle.core_terms.specs.TypeTables.{type_at}
 use Rattle.core_terms.specs.declared.roles.RoleId.{RoleId}
 use Rattle.core_terms.specs.declared.roles.Role.{Role}
-use Rattle.file_commands.specs.Answer.{with_role}
-use Rattle.file_commands.specs.Halting.{GoesOn, InHand}
+use Rattle.file_commands.specs.RoleInputs.{with_role}
+use Rattle.file_commands.specs.Halting.{StepGives, InHand}
 use Rattle.file_commands.proofs.RoleShapes.{kind_is, role_goes, role_has_shape, role_is_named, role_refused}
 use Rattle.file_commands.proofs.roles.role_named.Goals as goal
 
@@ -41,6 +41,6 @@ returns-else-calls-clause-goes c =
     let found = sym (ap (option_map (λ (id : RoleId). role_function P id.0)) c.in_ok-id.ensures.ok_part) ∙ c.role.ensures in
     let named = role_is_named p c.args.name.now n c.roles.result.now c.roles.ensures.roles found role _ c.index-roles-id.is in
     let shape = role_has_shape p c.args.name.now n c.roles.result.now c.roles.ensures.roles found role _ c.index-roles-id.is c.roles.ensures.shapes in
-    subst (λ h. InHand (GoesOn (with_role c.args.callee P c.args.name.now) (λ (role : Bor Role). role.now.function.0)) (Err h)) (sym c.into.ensures)
+    subst (λ h. InHand (StepGives (with_role c.args.callee P c.args.name.now) (λ (role : Bor Role). role.now.function.0)) (Err h)) (sym c.into.ensures)
     (λ go. role_refused c.args.callee P c.args.name.now role.function.0 (role_kind_of role.kind) named
     (kind_is P role.function.0 (role_kind_of role.kind) (type_at (types_of p) role.argument) shape.0 shape.1) go (sym c.calls.ensures ∙ c.if-calls.false))

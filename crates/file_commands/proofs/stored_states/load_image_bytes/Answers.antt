@@ -4,7 +4,8 @@ use Rattle.core_terms.specs.Programs.{meaning}
 use Rattle.core_terms.specs.Values.{Value}
 use Rattle.images.specs.Images.{Root, image_of}
 use Rattle.printed_lines.specs.declared.refusal.Argument.TheVariants.{Image}
-use Rattle.file_commands.specs.Answer.{Answer, max_file, with_file, with_image}
+use Rattle.file_commands.specs.FileInputs.{max_file, with_file, with_image}
+use Rattle.file_commands.specs.AnswerForms.{Answer}
 use Rattle.file_commands.specs.FueledRoles.{DigestedProgram}
 use Rattle.file_commands.specs.ReadPrograms.{digested_of}
 use Rattle.file_commands.specs.StoredStates.{IsStoredState}

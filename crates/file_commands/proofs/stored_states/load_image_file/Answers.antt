@@ -2,7 +2,7 @@ use Rattle.std.proofs.Common.{sym, ap, ◌∙◌}
 use Rattle.std.proofs.lemmas.Result.{err_from_is_err_and}
 use Rattle.core_terms.specs.Programs.{meaning}
 use Rattle.printed_lines.specs.declared.refusal.Argument.TheVariants.{Image}
-use Rattle.file_commands.specs.Answer.{max_file, with_file, with_image}
+use Rattle.file_commands.specs.FileInputs.{max_file, with_file, with_image}
 use Rattle.file_commands.specs.ReadPrograms.{digested_of}
 use Rattle.file_commands.specs.StoredStates.{IsStoredState}
 use Rattle.file_commands.proofs.Steps.{goes_behind, halts_first_for}

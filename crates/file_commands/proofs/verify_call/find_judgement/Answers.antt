@@ -5,13 +5,16 @@ use Rattle.lam_outside.specs.Told.{Contents}
 use Rattle.lam_outside.specs.FileSteps.{StartsAt}
 use Rattle.core_terms.specs.declared.program.Program.{Program}
 use Rattle.code_gen.specs.Programs.{program_in}
-use Rattle.file_commands.specs.Answer.{Answer, RoleCall, callee_of, verified_answer, with_bytes, with_fueled_role, with_role_call}
+use Rattle.file_commands.specs.Answer.{callee_of, verified_answer}
+use Rattle.file_commands.specs.RoleInputs.{RoleCall, with_fueled_role, with_role_call}
+use Rattle.file_commands.specs.FileInputs.{with_bytes}
+use Rattle.file_commands.specs.AnswerForms.{Answer}
 use Rattle.file_commands.specs.FueledRoles.{FueledRole}
 use Rattle.file_commands.specs.Halting.{HaltsAs}
 use Rattle.file_commands.specs.ReadPrograms.{named_of}
 use Rattle.file_commands.specs.Reaching.{HaltsAtReached, IsLast, without}
 use Rattle.file_commands.specs.RolesCalled.{CallsOnStates, IsCalled, role_of}
-use Rattle.file_commands.specs.RolesJudged.{answer_behind, call_of, name_of, out_of, with_named_call}
+use Rattle.file_commands.specs.RolesJudged.{answer_behind, call_meant, name_of, out_of, with_named_call}
 use Rattle.file_commands.specs.Storing.{FindsOutput}
 use Rattle.file_commands.specs.declared.report.Halt.TheVariants.{ReadFault}
 use Rattle.file_commands.specs.declared.calls.RoleCall.{RoleCall as Call}
@@ -74,9 +77,9 @@ started old files name left told starts = subst (λ contents. StartsAt contents 
 
 -- the call that was read goes on, by the callee and the program as the code holds them
 goes_held : (words : VerifyWords) (callee : Callee) (p q : Program) (call : Call) (files : Contents) → callee ≡ callee_of (out_of words) → q ≡ p
-    → ((go : RoleCall → Option Answer) → step words callee q files go ≡ go (call_of q call)) → (go : RoleCall → Option Answer) → step words (callee_of (out_of words)) p files go ≡ go (call_of p call)
+    → ((go : RoleCall → Option Answer) → step words callee q files go ≡ go (call_meant q call)) → (go : RoleCall → Option Answer) → step words (callee_of (out_of words)) p files go ≡ go (call_meant p call)
 goes_held words callee p q call files same_callee same goes =
-    held (λ callee p. (go : RoleCall → Option Answer) → step words callee p files go ≡ go (call_of p call)) callee (callee_of (out_of words)) q p same_callee same goes
+    held (λ callee p. (go : RoleCall → Option Answer) → step words callee p files go ≡ go (call_meant p call)) callee (callee_of (out_of words)) q p same_callee same goes
 
 role_held : (words : VerifyWords) (callee : Callee) (p q : Program) (called : CalledRole) → callee ≡ callee_of (out_of words) → q ≡ p
     → ((go : FueledRole → Option Answer) → with_fueled_role callee (named_of q) words.call.role.now words.call.fuel.now go ≡ go (role_of q called))
@@ -96,7 +99,7 @@ returns-in_err-start-clause-reached g c =
     let p = program_in c.args.code.now in
     let call = c.in_ok-call.call in
     any_reached (answer_behind (named_of p) words) words.proof.now _ _ c.from_residual-in_err-start.result
-    (λ files known. no_proof words p (call_of p call) files
+    (λ files known. no_proof words p (call_meant p call) files
     (goes_held words _ p _ call files c.callee-callee.ensures c.program.ensures (c.in_ok-call.ensures.goes files known)) (role_held words _ p _ call.called c.callee-callee.ensures c.program.ensures c.in_ok-call.ensures.role))
     (last_asked _ _ words.proof.now c.in_err-start.ensures.asked)
 
@@ -114,7 +117,7 @@ returns-clause-finds g c = λ told known.
     let call = c.in_ok-call.call in
     let file = started _ told words.proof.now _ (c.in_ok-call.ensures.contents ∙ known) c.in_ok-start.ensures.started in
     let answer = goes_held words _ p _ call told c.callee-callee.ensures c.program.ensures (c.in_ok-call.ensures.goes told known) (behind_call words told)
-    ∙ ap (λ file. with_bytes file (λ bytes. Some (verified_answer out (call_of p call) bytes))) file.1 in
+    ∙ ap (λ file. with_bytes file (λ bytes. Some (verified_answer out (call_meant p call) bytes))) file.1 in
     subst (λ answer. FindsOutput (name_of out) answer c.judge_proof.result) (sym answer) (c.judge_proof.ensures.finds out c.callee-callee.ensures file.0 file.2)
 
 pub returns-clause-reached : goal.returns-clause-reached
@@ -123,6 +126,6 @@ returns-clause-reached g c =
     let p = program_in c.args.code.now in
     let call = c.in_ok-call.call in
     any_reached (answer_behind (named_of p) words) words.proof.now _ _ c.judge_proof.result
-    (λ files known. no_proof words p (call_of p call) files
+    (λ files known. no_proof words p (call_meant p call) files
     (goes_held words _ p _ call files c.callee-callee.ensures c.program.ensures (c.in_ok-call.ensures.goes files known)) (role_held words _ p _ call.called c.callee-callee.ensures c.program.ensures c.in_ok-call.ensures.role))
     (subst (λ asked. ForSome asked (λ names. IsLast words.proof.now names)) (sym c.judge_proof.ensures.asked) (last_asked _ _ words.proof.now c.in_ok-start.ensures.asked))

@@ -1,6 +1,6 @@
 use Rattle.std.proofs.Common.{subst}
 use Rattle.core_terms.specs.Programs.{meaning}
-use Rattle.verifier_mode.specs.Verdicts.{IsTold}
+use Rattle.verifier_mode.specs.Verdicts.{TellsSomeOutcome}
 use Rattle.ideal_meaning.specs.SpelledOutcomes.{SpellsOutcome}
 use Rattle.file_commands.specs.RoleCalls.{result_called}
 use Rattle.file_commands.specs.RolesCalled.{role_of}
@@ -16,7 +16,7 @@ first_spelled-requires-clause-spelled c =
     let p = c.args.program.now in
     let called = c.args.called.now in
     value_lent p called c.requires.called c.types.result.now c.types.ensures c.in-Done.value c.as_bytes.result.now c.as_bytes.ensures
-    (subst (λ outcome. IsTold (meaning p) (result_called (role_of p called)) outcome) c.in-Done.is c.requires.told)
+    (subst (λ outcome. TellsSomeOutcome (meaning p) (result_called (role_of p called)) outcome) c.in-Done.is c.requires.told)
 
 pub returns-in_ok-state-in-Done : goal.returns-in_ok-state-in-Done
 returns-in_ok-state-in-Done c = λ name o spells.

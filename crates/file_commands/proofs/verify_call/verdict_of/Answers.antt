@@ -6,8 +6,8 @@ use Rattle.core_terms.specs.RoleViews.{role_kind_of}
 use Rattle.core_terms.specs.Roles.{argument_type}
 use Rattle.core_terms.specs.TypeTables.{type_at}
 use Rattle.ideal_meaning.specs.Checked.{verdict}
-use Rattle.verifier_mode.specs.Verdicts.{Answers}
-use Rattle.file_commands.specs.Answer.{role_verdict}
+use Rattle.verifier_mode.specs.Verdicts.{AnswersVerdict}
+use Rattle.file_commands.specs.RoleInputs.{role_verdict}
 use Rattle.file_commands.proofs.RoleShapes.{calls_reads, function_there}
 use Rattle.file_commands.proofs.verify_call.verdict_of.Goals as goal
 
@@ -34,5 +34,5 @@ returns-clause-verdict g c = λ bytes told.
     let P = meaning (program_in c.args.code.now) in
     let call = c.args.call.now in
     let f = call.called.function.0 in
-    subst (λ s. Answers P f (verdict sha256 P (argument_type P f) f s call.argument call.called.fuel bytes) c.verify.result) c.deref.ensures.value
-    (subst (λ a. Answers P f (verdict sha256 P (argument_type P f) f c.deref.result.now a call.called.fuel bytes) c.verify.result) c.as_bytes.ensures (c.verify.ensures.verdict bytes told))
+    subst (λ s. AnswersVerdict P f (verdict sha256 P (argument_type P f) f s call.argument call.called.fuel bytes) c.verify.result) c.deref.ensures.value
+    (subst (λ a. AnswersVerdict P f (verdict sha256 P (argument_type P f) f c.deref.result.now a call.called.fuel bytes) c.verify.result) c.as_bytes.ensures (c.verify.ensures.verdict bytes told))

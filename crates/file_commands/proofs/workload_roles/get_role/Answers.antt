@@ -5,8 +5,9 @@ use Rattle.core_terms.specs.RoleViews.{role_kind_of}
 use Rattle.core_terms.specs.TypeTables.{type_at}
 use Rattle.core_terms.specs.declared.program.FunctionId.{FunctionId}
 use Rattle.core_terms.specs.declared.roles.Role.{Role}
-use Rattle.file_commands.specs.Answer.{is_get, with_role, with_shape, with_shaped_role}
-use Rattle.file_commands.specs.Halting.{GoesOn, InHand}
+use Rattle.file_commands.specs.WorkloadAnswers.{is_get, with_shape, with_shaped_role}
+use Rattle.file_commands.specs.RoleInputs.{with_role}
+use Rattle.file_commands.specs.Halting.{StepGives, InHand}
 use Rattle.file_commands.specs.declared.roles.Callee.TheVariants.{OfState}
 use Rattle.file_commands.proofs.LineSteps.{first_halts}
 use Rattle.file_commands.proofs.RoleShapes.{calls_reads}
@@ -41,7 +42,7 @@ returns-else-is_get-clause-goes c =
     let p = c.args.program.now in
     let role = c.in_ok-role.role.now in
     let is = c.in_ok-role.ensures.role in
-    subst (λ h. InHand (GoesOn (with_shaped_role is_get (meaning p) (codes "get")) (λ (get : FunctionId). get.0)) (Err h)) (sym c.into.ensures)
+    subst (λ h. InHand (StepGives (with_shaped_role is_get (meaning p) (codes "get")) (λ (get : FunctionId). get.0)) (Err h)) (sym c.into.ensures)
     (λ go. c.in_ok-role.ensures.goes (λ f. with_shape is_get (meaning p) f go)
     ∙ shape_refused is_get (meaning p) role.function.0 (role_kind_of role.kind) (type_at (types_of p) role.argument) is.answer is.shape
     (calls_reads OfState (role_kind_of role.kind) tt is.called) go (sym c.is_get.ensures ∙ c.if-is_get.false))

@@ -1,7 +1,9 @@
 use Rattle.std.proofs.Common.{◌≡◌, ℕ, List, Option, Some, None, refl, ap, inl, ◌∙◌, subst}
 use Rattle.code_gen.specs.Programs.{program_in}
 use Rattle.lam_outside.specs.Told.{Contents}
-use Rattle.file_commands.specs.Answer.{Answer, unfounded_answer, with_image_bytes, with_program_file}
+use Rattle.file_commands.specs.Answer.{unfounded_answer}
+use Rattle.file_commands.specs.FileInputs.{with_image_bytes, with_program_file}
+use Rattle.file_commands.specs.AnswerForms.{Answer}
 use Rattle.file_commands.specs.FueledRoles.{NamedProgram}
 use Rattle.file_commands.specs.Halting.{HaltsAs, MayHalt}
 use Rattle.file_commands.specs.ReadPrograms.{digested_of, named_of}

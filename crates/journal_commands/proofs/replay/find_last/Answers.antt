@@ -1,7 +1,9 @@
 use Rattle.std.proofs.Common.{ℕ, List, Option, Some, None, Err, refl, ap, ◌∙◌}
 use Rattle.code_gen.specs.Programs.{program_in}
 use Rattle.session_meaning.specs.Server.{Shared}
-use Rattle.file_commands.specs.Answer.{Answer, unreplayed_answer, with_program_file}
+use Rattle.file_commands.specs.Answer.{unreplayed_answer}
+use Rattle.file_commands.specs.FileInputs.{with_program_file}
+use Rattle.file_commands.specs.AnswerForms.{Answer}
 use Rattle.file_commands.specs.FueledRoles.{DigestedProgram, NamedProgram}
 use Rattle.file_commands.specs.ReadPrograms.{digested_of}
 use Rattle.file_commands.proofs.Reached.{is_missing}

@@ -3,7 +3,7 @@ use Rattle.code_gen.specs.Programs.{program_in}
 use Rattle.core_terms.specs.declared.program.Program.{Program}
 use Rattle.printed_lines.specs.Lines.{versions_line}
 use Rattle.value_store.specs.declared.node.Ref.{Ref}
-use Rattle.file_commands.specs.Answer.{says}
+use Rattle.file_commands.specs.AnswerForms.{says}
 use Rattle.file_commands.specs.ReadPrograms.{digested_of}
 use Rattle.file_commands.specs.declared.status.Status.TheVariants.{Done}
 use Rattle.file_commands.proofs.StoredOutputs.{storing_refused, storing_told}

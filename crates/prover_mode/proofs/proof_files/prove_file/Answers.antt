@@ -4,7 +4,7 @@ use Rattle.core_terms.specs.Formats.{IsHash}
 use Rattle.core_terms.specs.ProgramTypes.{types_meaning}
 use Rattle.code_gen.specs.Programs.{program_in}
 use Rattle.ideal_meaning.specs.Frames.{frame_bytes}
-use Rattle.ideal_meaning.specs.Headline.{call_of}
+use Rattle.ideal_meaning.specs.Headline.{call_values}
 use Rattle.value_store.specs.Nodes.{AreSound}
 use Rattle.mode_vm.specs.Meanings.{program_of}
 use Rattle.reuse_buffer.specs.Kept.{Kept}
@@ -18,19 +18,19 @@ pub returns-clause-frames : goal.returns-clause-frames
 returns-clause-frames g c s a called =
     let size : c.in_ok-ring.ring.size ≡ c.args.size = ap (λ (r : Kept). r.size) c.in_ok-ring.ensures in
     let tells = c.in_ok-proof.ensures.frames s a [] called (holds_last c.in_ok-ring.ring c.args.size [] c.in_ok-ring.ensures) in
-    tells.frames ∙ ap (λ n. frame_bytes (run_frames g.H.Hash32.hash (program_of c.args.code.now) c.args.role.0 (call_of s a) c.args.fuel n [])) size
+    tells.frames ∙ ap (λ n. frame_bytes (run_frames g.H.Hash32.hash (program_of c.args.code.now) c.args.role.0 (call_values s a) c.args.fuel n [])) size
 
 pub returns-clause-fresh : goal.returns-clause-fresh
 returns-clause-fresh g c s a called =
     let size : c.in_ok-ring.ring.size ≡ c.args.size = ap (λ (r : Kept). r.size) c.in_ok-ring.ensures in
     let tells = c.in_ok-proof.ensures.frames s a [] called (holds_last c.in_ok-ring.ring c.args.size [] c.in_ok-ring.ensures) in
-    tells.fresh_count ∙ ap (λ n. fresh_in (run_frames g.H.Hash32.hash (program_of c.args.code.now) c.args.role.0 (call_of s a) c.args.fuel n [])) size
+    tells.fresh_count ∙ ap (λ n. fresh_in (run_frames g.H.Hash32.hash (program_of c.args.code.now) c.args.role.0 (call_values s a) c.args.fuel n [])) size
 
 pub returns-clause-again : goal.returns-clause-again
 returns-clause-again g c s a called =
     let size : c.in_ok-ring.ring.size ≡ c.args.size = ap (λ (r : Kept). r.size) c.in_ok-ring.ensures in
     let tells = c.in_ok-proof.ensures.frames s a [] called (holds_last c.in_ok-ring.ring c.args.size [] c.in_ok-ring.ensures) in
-    tells.again_count ∙ ap (λ n. again_in (run_frames g.H.Hash32.hash (program_of c.args.code.now) c.args.role.0 (call_of s a) c.args.fuel n [])) size
+    tells.again_count ∙ ap (λ n. again_in (run_frames g.H.Hash32.hash (program_of c.args.code.now) c.args.role.0 (call_values s a) c.args.fuel n [])) size
 
 pub returns-clause-file : goal.returns-clause-file
 returns-clause-file g c s a called =

@@ -8,7 +8,7 @@ use Rattle.core_terms.specs.declared.term.Operation.{Operation}
 use Rattle.ideal_meaning.specs.Ideal.{Opened}
 use Rattle.ideal_meaning.specs.Run as meant
 use Rattle.reference_run.specs.PlainValues.{plain_of, plains_of}
-use Rattle.reference_run.specs.Telling.{Evaluation, GoesOn, Tells, row_values}
+use Rattle.reference_run.specs.Telling.{Evaluation, TellsBehind, Tells, row_values}
 use Rattle.reference_run.specs.declared.stop.Stop.{Stop}
 use Rattle.reference_run.specs.declared.values.Plain.{Plain}
 use Rattle.reference_run.proofs.Calculated.{behind}
@@ -21,7 +21,7 @@ operated p op vs k seen = meant.operate (meaning p).format.limit (meaning p).typ
 -- what is told of it on these operands
 told : (p : Program) (op is : Operation) (operands : Result (Vec Plain Global) Stop) (given : Vec Plain Global) (lent : List Plain) (result : Result Plain Stop)
     → op ≡ is → operands ≡ Ok given → lent ≡ given.items → ((k : ℕ) (seen : List Opened) → Tells plain_of k result (operated p is (plains_of lent) k seen))
-    → GoesOn row_values (operated p op) operands result
+    → TellsBehind row_values (operated p op) operands result
 told p op is operands given lent result same was items h =
     behind row_values (operated p op) operands given result was (λ k seen.
     subst (λ run. Tells plain_of k result run) (ap₂ (λ op vs. operated p op (plains_of vs) k seen) (sym same) items) (h k seen))

@@ -8,7 +8,7 @@ use Rattle.ideal_meaning.specs.Checked.{verdict}
 use Rattle.ideal_meaning.specs.Frames.{header}
 use Rattle.value_store.specs.Stores.{nodes_in}
 use Rattle.mode_vm.specs.Meanings.{program_of}
-use Rattle.verifier_mode.specs.Verdicts.{Answers, VerdictCause}
+use Rattle.verifier_mode.specs.Verdicts.{AnswersVerdict, VerdictCause}
 use Rattle.verifier_mode.proofs.Given.{gives_with}
 use Rattle.verifier_mode.proofs.Judging.{good_call, put_cause, refused}
 use Rattle.verifier_mode.proofs.Parameters.{both_stand}
@@ -22,7 +22,7 @@ returns-in_err-refs-clause-verdict g c bytes told =
     let put = put_by (program_in c.args.code.now) c.types-2.result.now c.types-2.ensures (nodes_in c.put_call.new.store) c.argument_of-ty.result _
     (argument_by (program_in c.args.code.now) c.program.result.now c.args.role.0 c.argument_of-ty.result c.program.ensures c.argument_of-ty.ensures)
     c.args.state.now c.args.argument.now (Err c.in_err-refs.field-0.0) c.in_err-refs.ensures.put in
-    gives_with (Answers P c.args.role.0 (verdict g.H.Hash32.hash P (argument_type P c.args.role.0) c.args.role.0 c.args.state.now c.args.argument.now c.args.fuel bytes))
+    gives_with (AnswersVerdict P c.args.role.0 (verdict g.H.Hash32.hash P (argument_type P c.args.role.0) c.args.role.0 c.args.state.now c.args.argument.now c.args.fuel bytes))
     _ _ c.from_residual.ensures.1
     (refused g.H.Hash32.hash P c.args.role.0 c.args.state.now c.args.argument.now c.args.fuel bytes (nodes_in c.put_call.new.store) c.in_err-refs.field-0.0 put)
 
@@ -52,7 +52,7 @@ returns-clause-verdict g c bytes told =
     c.args.state.now c.args.argument.now (Ok c.in_ok-refs.refs) c.in_ok-refs.ensures.put in
     let stand = both_stand P c.args.role.0 c.requires.role (nodes_in c.put_call.new.store) _ (AndV put.0 (AndV put.1 NoV)) put.4 in
     let same = good_call g.H.Hash32.hash P c.args.role.0 c.args.state.now c.args.argument.now c.args.fuel bytes put.0 put.1 put.2 put.3 (header P.format bytes) refl in
-    subst (λ v. Answers P c.args.role.0 v c.judge_file.result) (sym same) (c.judge_file.ensures.verdict (AndV put.0 (AndV put.1 NoV)) stand bytes told)
+    subst (λ v. AnswersVerdict P c.args.role.0 v c.judge_file.result) (sym same) (c.judge_file.ensures.verdict (AndV put.0 (AndV put.1 NoV)) stand bytes told)
 
 pub returns-clause-headline : goal.returns-clause-headline
 returns-clause-headline g c bytes told =

@@ -7,7 +7,7 @@ use Rattle.session_tables.specs.Tables.{rows_of}
 use Rattle.verifier_mode.proofs.Given.{gives_with}
 use Rattle.wire_form.specs.MessageViews.{reply_meant}
 use Rattle.ask_core.specs.Clients.{IsClient}
-use Rattle.ask_core.specs.Replies.{Takes}
+use Rattle.ask_core.specs.Replies.{ClientTakes}
 use Rattle.ask_core.specs.declared.told.AskFault.TheVariants.{NoMemory}
 use Rattle.ask_core.proofs.Refusing.{none_there}
 use Rattle.ask_core.proofs.Taking.{ends, forgotten, goes_on, refused}
@@ -24,7 +24,7 @@ returns-in_err-standing-clause-answer g c m is =
     let fault = c.in_err-standing.field-0.0 in
     let open_now = none_there core.closed c.in_default.not-Some in
     let to_one = sym c.cause_for_all.ensures ∙ none_there c.cause_for_all.result c.in_default-cause_for_all.not-Some in
-    gives_with (Takes (IsClient P core.closed later) P m reply (take_event hash P own m (Hears reply)) (take_event hash P own m (Forgets (session_of reply))))
+    gives_with (ClientTakes (IsClient P core.closed later) P m reply (take_event hash P own m (Hears reply)) (take_event hash P own m (Forgets (session_of reply))))
     fault _ c.from_residual.ensures.1
     (refused hash P own core.closed (rows_of core.sessions) m is reply open_now to_one c.session_of-session.result c.session_of-session.ensures later
     c.in_err-standing.ensures.same fault c.in_err-standing.ensures.refused)
@@ -39,7 +39,7 @@ returns-in_err-replied-clause-answer g c m is =
     let later = rows_of c.take_waiting.new.sessions in
     let open_now = none_there core.closed c.in_default.not-Some in
     let to_one = sym c.cause_for_all.ensures ∙ none_there c.cause_for_all.result c.in_default-cause_for_all.not-Some in
-    gives_with (Takes (IsClient P core.closed later) P m reply (take_event hash P own m (Hears reply)) (take_event hash P own m (Forgets (session_of reply))))
+    gives_with (ClientTakes (IsClient P core.closed later) P m reply (take_event hash P own m (Hears reply)) (take_event hash P own m (Forgets (session_of reply))))
     NoMemory _ c.from_residual-in_err-replied.ensures.1
     (forgotten hash P own core.closed (rows_of core.sessions) m is reply open_now to_one c.session_of-session.result c.session_of-session.ensures later
     c.in_ok-standing.ensures.rows)

@@ -1,7 +1,7 @@
 use Rattle.std.proofs.Common.{◌≡◌, [], List, sym, ap, ◌∙◌, subst, arith}
 use Rattle.core_terms.specs.Fronts.{AreFronts}
 use Rattle.code_gen.specs.Programs.{program_in}
-use Rattle.ideal_meaning.specs.Headline.{call_of}
+use Rattle.ideal_meaning.specs.Headline.{call_values}
 use Rattle.mode_vm.specs.Meanings.{program_of}
 use Rattle.mode_vm.proofs.StateCalls.{both_stand}
 use Rattle.prover_mode.specs.Seen.{AreSeen}
@@ -19,7 +19,7 @@ returns g c nodes s a called =
     record {
       seen = [];
       opened = subst (λ (os : List Opened). AreSeen hash (program_in c.args.code.now).types nodes os []) (sym none) tt;
-      runs = c.in_ok-machine.ensures.will nodes (call_of s a) [] stand;
+      runs = c.in_ok-machine.ensures.will nodes (call_values s a) [] stand;
       calls = let fuel = starts.fuel in omega (arith, fuel);
       due = starts.entered;
       knows = subst (λ m. AreFronts hash (program_in c.args.code.now).types m.fronts) (sym c.in_ok-machine.ensures.mode)

@@ -5,9 +5,10 @@ use Rattle.session_meaning.specs.Server as meant
 use Rattle.session_tables.specs.Tables.{rows_of}
 use Rattle.session_turns.specs.Sessions.{IsSession}
 use Rattle.value_store.specs.Stores.{nodes_in}
-use Rattle.serve_core.proofs.Calls.{admitted, are_bytes, call_runs, no_session, runs_alike}
+use Rattle.serve_core.proofs.Calls.{admitted, call_runs, no_session, runs_alike}
 use Rattle.serve_core.proofs.Steps.{is_none, none_also, none_there, some_also}
 use Rattle.serve_core.proofs.server.ServeCore.admit.Goals as goal
+use Rattle.core_terms.proofs.ByteLists.{are_bytes}
 
 pub returns-in_default : goal.returns-in_default
 returns-in_default g c server h =

@@ -1,7 +1,7 @@
 use Rattle.std.proofs.Common.{rules, ◌≡◌, ◌+◌, ◌<◌, ℕ, List, length, take, ◌++◌, Some, Ok, sym, ap, ◌∙◌, subst, arith, le-leb}
 use Rattle.core_terms.specs.Formats.{message_limit}
 use Rattle.ideal_meaning.specs.Frames.{frame_bytes}
-use Rattle.ideal_meaning.specs.Headline.{call_of}
+use Rattle.ideal_meaning.specs.Headline.{call_values}
 use Rattle.mode_vm.specs.Meanings.{program_of}
 use Rattle.reuse_buffer.specs.Kept.{Kept, kept}
 use Rattle.session_meaning.specs.Calls.{frames_of, new_state, outcome_of, role_in}
@@ -38,7 +38,7 @@ returns-clause-ends g c s state call made h on ring =
     let size = ap (λ (k : Kept). k.size) ring in
     let held = subst (λ (n : ℕ). c.args.ring ≡ kept n s.recent) (sym size) ring in
     let tells =
-    of_some _ _ _ c.in-Some.is c.in_ok-told.ensures.told (role_in P call.role).function (call_of state call.argument) call.fuel s.recent
+    of_some _ _ _ c.in-Some.is c.in_ok-told.ensures.told (role_in P call.role).function (call_values state call.argument) call.fuel s.recent
     (run_over hash c.args.code.now base run c.args.call state call made h c.in-Ok-Some.outcome ran _ c.on-over.ensures.nodes) held in
     let proof = c.in-Some.told.0 in
     let told = tells_so hash P state call s.kept c.args.ring.size s.recent proof.bytes.items proof.fresh proof.again c.in-Some.told.1 size tells.0 in
@@ -65,7 +65,7 @@ returns-in_default-2-clause-too_long g c s state call made h on ring =
     let size = ap (λ (k : Kept). k.size) ring in
     let held = subst (λ (n : ℕ). c.args.ring ≡ kept n s.recent) (sym size) ring in
     let long =
-    of_none _ _ c.in_default-2.is c.in_ok-told.ensures.long (role_in P call.role).function (call_of state call.argument) call.fuel s.recent
+    of_none _ _ c.in_default-2.is c.in_ok-told.ensures.long (role_in P call.role).function (call_values state call.argument) call.fuel s.recent
     (run_over hash c.args.code.now (nodes_in c.args.base.now) c.args.self c.args.call state call made h c.in-Ok-Some.outcome ran _ c.on-over.ensures.nodes) held in
     too_many (frames_of hash P s.kept s.recent state call)
     (subst (λ (n : ℕ). 16777213 < length (frame_bytes (frames_of hash P n s.recent state call))) size long)
