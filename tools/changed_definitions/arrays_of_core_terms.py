@@ -93,6 +93,8 @@ CHANGES = {
         ("result_type: a fill is its element", "result_type (VecFill n t) = VecTy n t", "result_type (VecFill n t) = t"),
         ("result_type: an element is its array", "result_type (VecGet n t) = t", "result_type (VecGet n t) = VecTy n t"),
         ("result_type: a replacement is its element", "result_type (VecPut n t) = VecTy n t", "result_type (VecPut n t) = t"),
+    ],
+    "TypingRules": [
         ("is_operation: a fill of any length", "is_operation (VecFill n t) = is_length n", "is_operation (VecFill n t) = true"),
         ("is_operation: an element of any length", "is_operation (VecGet n t) = is_length n", "is_operation (VecGet n t) = true"),
         ("is_operation: a replacement of any length", "is_operation (VecPut n t) = is_length n", "is_operation (VecPut n t) = true"),
@@ -177,7 +179,7 @@ CHANGES = {
         ),
         ("expression_from_parts: no operands", "OperateE (operation_of types op) (in_a_row operands.items)", "OperateE (operation_of types op) NoE"),
     ],
-    "ProgramLimits": [
+    "ProgramSizes": [
         (
             "levels_of_type: an array adds none",
             "levels_of_type (VecTy n t) = suc (levels_of_type t)",

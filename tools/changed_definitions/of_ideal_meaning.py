@@ -598,9 +598,9 @@ CHANGES = {
     ],
     "Headline": [
         (
-            "call_of: the argument first",
-            "call_of state argument = AndV state (AndV argument NoV)",
-            "call_of state argument = AndV argument (AndV state NoV)",
+            "call_values: the argument first",
+            "call_values state argument = AndV state (AndV argument NoV)",
+            "call_values state argument = AndV argument (AndV state NoV)",
         ),
         ("TrueOrSplit: any outcome", "× (o ≡ outcome_projection hash P t (outcome (ideal P f args k))))", "× (o ≡ o))"),
         ("TrueOrSplit: any pieces", "((pieces ≡ bytes_of (honest_pieces hash P f args k)) ×", "((pieces ≡ pieces) ×"),
@@ -620,7 +620,7 @@ CHANGES = {
         ("TookHonest: any place", "    pub place : w.place ≡ began.place + length seen\n", "    pub place : Unit {0}\n"),
         (
             "OffersOther: of any digest",
-            "    pub one_digest : form.digest x.ty found ≡ form.digest x.ty (honest_as x)\n",
+            "    pub one_digest : form.digest x.ty found ≡ form.digest x.ty (honest_as hash P form x)\n",
             "    pub one_digest : Unit {0}\n",
         ),
         (

@@ -1,7 +1,7 @@
 """Changes of the definitions of `core_terms`: limits, and what a program of the code stands for. `of_core_terms.py` says how they are written."""
 
 CHANGES = {
-    "ProgramLimits": [
+    "ProgramSizes": [
         ("levels_of_type: auth adds none", "levels_of_type (AuthTy t) = suc (levels_of_type t)", "levels_of_type (AuthTy t) = levels_of_type t"),
         (
             "expressions_in: the test of an if is not counted",
@@ -54,14 +54,6 @@ CHANGES = {
             "use Rattle.core_terms.specs.Types.{Ty, PairTy, AuthTy, VecTy, Table}",
             "use Rattle.core_terms.specs.Types.{Ty, UnitTy, PairTy, AuthTy, VecTy, Table}",
         ),
-        ("most_types: 257", "most_types = 256", "most_types = 257"),
-        ("most_constructors: 256", "most_constructors = 255", "most_constructors = 256"),
-        ("most_fields: 9", "most_fields = 8", "most_fields = 9"),
-        ("most_functions: 1,025", "most_functions = 1024", "most_functions = 1025"),
-        ("most_parameters: 9", "most_parameters = 8", "most_parameters = 9"),
-        ("most_locals: 256", "most_locals = 255", "most_locals = 256"),
-        ("most_expressions: one more", "most_expressions = 262144", "most_expressions = 262145"),
-        ("most_levels: 101", "most_levels = 100", "most_levels = 101"),
         (
             "levels_of_type: the first part alone",
             "levels_of_type (PairTy a b) = suc (max (levels_of_type a) (levels_of_type b))",
@@ -121,7 +113,6 @@ CHANGES = {
         ("IsFunctionWithin: any name", "  pub name : IsName g.name\n", "  pub name : Unit {0}\n"),
         ("IsFunctionWithin: any parameter types", "  pub parameter_types : All IsFlatType g.parameters\n", "  pub parameter_types : Unit {0}\n"),
         ("IsWithinLimits: any fields", "  pub fields : All (All (λ fields. length fields ≤ most_fields)) P.types\n", "  pub fields : Unit {0}\n"),
-        ("IsWithinLimits: any functions", "  pub each : All (IsFunctionWithin P.types) P.functions\n", "  pub each : Unit {0}\n"),
         (
             "IsWithinLimits: any number of expressions",
             "  pub expressions : expressions_in_all P.functions ≤ most_expressions",
@@ -314,6 +305,17 @@ CHANGES = {
         ("locals_in: a leaf has none", "locals_in n e = n", "locals_in n e = 0"),
         ("locals_in_row: of nothing none", "locals_in_row n NoE = n", "locals_in_row n NoE = 0"),
         ("expressions_in_all: of nothing 1", "expressions_in_all [] = 0", "expressions_in_all [] = 1"),
+    ],
+    "ProgramLimits": [
+        ("most_types: 257", "most_types = 256", "most_types = 257"),
+        ("most_constructors: 256", "most_constructors = 255", "most_constructors = 256"),
+        ("most_fields: 9", "most_fields = 8", "most_fields = 9"),
+        ("most_functions: 1,025", "most_functions = 1024", "most_functions = 1025"),
+        ("most_parameters: 9", "most_parameters = 8", "most_parameters = 9"),
+        ("most_locals: 256", "most_locals = 255", "most_locals = 256"),
+        ("most_expressions: one more", "most_expressions = 262144", "most_expressions = 262145"),
+        ("most_levels: 101", "most_levels = 100", "most_levels = 101"),
+        ("IsWithinLimits: any functions", "  pub each : All (IsFunctionWithin P.types) P.functions\n", "  pub each : Unit {0}\n"),
     ],
     "ProgramTrees": [
         ("in_a_row: the first alone", "in_a_row (x ∷ xs) = AndE x (in_a_row xs)", "in_a_row (x ∷ xs) = AndE x NoE"),

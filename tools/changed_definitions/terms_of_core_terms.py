@@ -1,7 +1,7 @@
 """Changes of the definitions of `core_terms`: terms, typing rules and roles. `of_core_terms.py` says how they are written."""
 
 CHANGES = {
-    "Terms": [
+    "TypingRules": [
         ("HasType: any int literal", "HasType env (IntE z) t = (IntTy ≡ t) × (int_fits z ≡ true)", "HasType env (IntE z) t = IntTy ≡ t"),
         ("HasType: a text literal of 65,533 bytes", "× (length bytes ≤ 65532)", "× (length bytes ≤ 65533)"),
         (
@@ -24,11 +24,6 @@ CHANGES = {
             "→ HasType g.parameters g.body g.result",
             "→ HasType (g.result ∷ g.parameters) g.body g.result",
         ),
-        (
-            "no_function: a query",
-            "kind = Inner; parameters = []; result = UnitTy; body = UnitE }",
-            "kind = Query; parameters = []; result = UnitTy; body = UnitE }",
-        ),
         ("HasType: a bool literal is an int", "HasType env (BoolE b) t = BoolTy ≡ t", "HasType env (BoolE b) t = IntTy ≡ t"),
         ("HasType: the first of a pair is the second", "HasType env (FstE a b x) t = (a ≡ t)", "HasType env (FstE a b x) t = (b ≡ t)"),
         (
@@ -43,7 +38,6 @@ CHANGES = {
         ),
         ("HaveArms: the fields are no locals", "HasType (env ++ c) e t × HaveArms env cs arms t", "HasType env e t × HaveArms env cs arms t"),
         ("HaveArms: more are taken", "HaveArms env [] (AndArm e arms) t = ⊥", "HaveArms env [] (AndArm e arms) t = Unit {0}"),
-        ("function_at: the first one", "unwrap_or (slice_get P.functions f) no_function", "unwrap_or (slice_get P.functions 0) no_function"),
         ("HasType: unit is a bool", "HasType env UnitE t = UnitTy ≡ t", "HasType env UnitE t = BoolTy ≡ t"),
         ("HasType: the first local", "HasType env (LocalE i) t = slice_get env i ≡ Some t", "HasType env (LocalE i) t = slice_get env 0 ≡ Some t"),
         (
@@ -86,6 +80,14 @@ CHANGES = {
         ),
         ("HasType: a match of an int", "HasType env x (NamedTy number) × HaveArms", "HasType env x IntTy × HaveArms"),
     ],
+    "Terms": [
+        (
+            "no_function: a query",
+            "kind = Inner; parameters = []; result = UnitTy; body = UnitE }",
+            "kind = Query; parameters = []; result = UnitTy; body = UnitE }",
+        ),
+        ("function_at: the first one", "unwrap_or (slice_get P.functions f) no_function", "unwrap_or (slice_get P.functions 0) no_function"),
+    ],
     "Typing": [
         (
             "same_type: pairs by their first",
@@ -101,11 +103,6 @@ CHANGES = {
             "all_typed: the first function alone",
             "has_type P g.parameters g.body g.result && all_typed P gs",
             "has_type P g.parameters g.body g.result",
-        ),
-        (
-            "shape_test: an init may take auth",
-            "shape_test P Init (argument ∷ []) result = same_type P.state result && not (has_auth P.types argument)",
-            "shape_test P Init (argument ∷ []) result = same_type P.state result",
         ),
         (
             "all_shaped: the first function alone",
@@ -128,13 +125,6 @@ CHANGES = {
         ("function_test: true where there is none", "function_test None test = false", "function_test None test = true"),
         ("is_at: true where there is none", "is_at None t = false", "is_at None t = true"),
         ("same_type: named types of any number", "same_type (NamedTy m) (NamedTy n) = nat_eq m n", "same_type (NamedTy m) (NamedTy n) = true"),
-        (
-            "shape_test: a query of any state",
-            "shape_test P Query (state ∷ argument ∷ []) result = same_type P.state state &&",
-            "shape_test P Query (state ∷ argument ∷ []) result =",
-        ),
-        ("shape_test: an update gives any state", "(same_type P.state new && not (has_auth P.types argument))", "not (has_auth P.types argument)"),
-        ("shape_test: other shapes too", "shape_test P kind parameters result = false", "shape_test P kind parameters result = true"),
         ("same_type: no unit", "same_type UnitTy UnitTy = true", "same_type UnitTy UnitTy = false"),
         ("same_type: no bool", "same_type BoolTy BoolTy = true", "same_type BoolTy BoolTy = false"),
         ("same_type: no int", "same_type IntTy IntTy = true", "same_type IntTy IntTy = false"),
@@ -187,6 +177,20 @@ CHANGES = {
             "have_types env (AndE x xs) (t ∷ ts) = has_type env x t && have_types env xs ts",
             "have_types env (AndE x xs) (t ∷ ts) = has_type env x t",
         ),
+    ],
+    "RoleShapes": [
+        (
+            "shape_test: an init may take auth",
+            "shape_test P Init (argument ∷ []) result = same_type P.state result && not (has_auth P.types argument)",
+            "shape_test P Init (argument ∷ []) result = same_type P.state result",
+        ),
+        (
+            "shape_test: a query of any state",
+            "shape_test P Query (state ∷ argument ∷ []) result = same_type P.state state &&",
+            "shape_test P Query (state ∷ argument ∷ []) result =",
+        ),
+        ("shape_test: an update gives any state", "(same_type P.state new && not (has_auth P.types argument))", "not (has_auth P.types argument)"),
+        ("shape_test: other shapes too", "shape_test P kind parameters result = false", "shape_test P kind parameters result = true"),
         ("shape_test: no inner function", "shape_test P Inner parameters result = true", "shape_test P Inner parameters result = false"),
     ],
     "Roles": [
@@ -208,6 +212,42 @@ CHANGES = {
             "{◌≡◌, ℕ, suc, Bool",
             "{◌≡◌, ℕ, suc, ◌-◌, Bool",
         ),
+        ("is_entered: inner functions too", "is_entered Inner = false", "is_entered Inner = true"),
+        ("role_among: inner functions too", "if is_entered g.kind && bytes_eq g.name name then Some 0", "if bytes_eq g.name name then Some 0"),
+        ("role_among: counts roles alone", "else option_map suc (role_among gs name)", "else role_among gs name"),
+        ("argument_place: an init's is the second", "argument_place Init = 0", "argument_place Init = 1"),
+        (
+            "role_with: the first parameter is the argument",
+            "argument = slice_index_or g.parameters (argument_place g.kind) UnitTy;",
+            "argument = slice_index_or g.parameters 0 UnitTy;",
+        ),
+        ("roles_among: numbers of roles", "else roles_among (suc f) gs", "else roles_among f gs"),
+        (
+            "argument_type: the first parameter",
+            "argument_type P f = slice_index_or (function_at P f).parameters 1 UnitTy",
+            "argument_type P f = slice_index_or (function_at P f).parameters 0 UnitTy",
+        ),
+        (
+            "has_auth_within: an inner auth alone",
+            "has_auth_within types opened (AuthTy t) = true",
+            "has_auth_within types opened (AuthTy t) = has_auth_within types opened t",
+        ),
+        ("argument_place: a query's is the first", "argument_place kind = 1", "argument_place kind = 0"),
+        (
+            "role_with: the result is the argument",
+            "  result = g.result;\n",
+            "  result = slice_index_or g.parameters (argument_place g.kind) UnitTy;\n",
+        ),
+        ("program_roles: numbered from 1", "program_roles P = roles_among 0 P.functions", "program_roles P = roles_among 1 P.functions"),
+        ("some_passes: of none", "some_passes test [] = false", "some_passes test [] = true"),
+        ("has_auth_within: every leaf", "has_auth_within types opened t = false", "has_auth_within types opened t = true"),
+        ("is_entered: no function", "is_entered kind = true", "is_entered kind = false"),
+        ("role_among: where none is", "role_among [] name = None", "role_among [] name = Some 0"),
+        ("role_with: the first function", "  function = f;\n", "  function = 0;\n"),
+        ("role_with: another kind", "  kind = g.kind;\n", "  kind = Query;\n"),
+        ("role_with: no name", "  name = g.name;\n", "  name = [];\n"),
+    ],
+    "RoleTypes": [
         (
             "IsPlain: with nothing opened",
             "IsPlain types t = (opened : ℕ) → has_auth_within types opened t ≡ false",
@@ -224,35 +264,15 @@ CHANGES = {
             "role_result Update state answer = PairTy state answer",
             "role_result Update state answer = PairTy answer state",
         ),
-        ("is_entered: inner functions too", "is_entered Inner = false", "is_entered Inner = true"),
         ("ReadsState: an init too", "ReadsState kind = ⊥", "ReadsState kind = Unit {0}"),
         ("IsRole: an argument with auth", "  pub plain : IsPlain P.types argument\n", "  pub plain : Unit {0}\n"),
         ("IsRole: of any kind", "  pub of_kind : function.kind ≡ kind\n", "  pub of_kind : Unit {0}\n"),
         ("IsRole: inner functions too", "  pub entered : is_entered kind ≡ true\n", "  pub entered : Unit {0}\n"),
-        ("role_among: inner functions too", "if is_entered g.kind && bytes_eq g.name name then Some 0", "if bytes_eq g.name name then Some 0"),
-        ("role_among: counts roles alone", "else option_map suc (role_among gs name)", "else role_among gs name"),
-        ("argument_place: an init's is the second", "argument_place Init = 0", "argument_place Init = 1"),
-        (
-            "role_with: the first parameter is the argument",
-            "argument = slice_index_or g.parameters (argument_place g.kind) UnitTy;",
-            "argument = slice_index_or g.parameters 0 UnitTy;",
-        ),
-        ("roles_among: numbers of roles", "else roles_among (suc f) gs", "else roles_among f gs"),
         ("HasRoleShape: any result", "× (role.result ≡ role_result role.kind P.state answer)", "× (role.result ≡ role.result)"),
         (
             "init_type: the second parameter",
             "init_type P f = slice_index_or (function_at P f).parameters 0 UnitTy",
             "init_type P f = slice_index_or (function_at P f).parameters 1 UnitTy",
-        ),
-        (
-            "argument_type: the first parameter",
-            "argument_type P f = slice_index_or (function_at P f).parameters 1 UnitTy",
-            "argument_type P f = slice_index_or (function_at P f).parameters 0 UnitTy",
-        ),
-        (
-            "has_auth_within: an inner auth alone",
-            "has_auth_within types opened (AuthTy t) = true",
-            "has_auth_within types opened (AuthTy t) = has_auth_within types opened t",
         ),
         ("role_result: a query makes a state", "role_result Query state answer = answer", "role_result Query state answer = state"),
         (
@@ -266,20 +286,11 @@ CHANGES = {
             "  pub parameters : Unit {0}\n",
         ),
         ("IsRole: any result", "  pub result : function.result ≡ role_result kind P.state answer\n", "  pub result : Unit {0}\n"),
-        ("argument_place: a query's is the first", "argument_place kind = 1", "argument_place kind = 0"),
-        (
-            "role_with: the result is the argument",
-            "  result = g.result;\n",
-            "  result = slice_index_or g.parameters (argument_place g.kind) UnitTy;\n",
-        ),
-        ("program_roles: numbered from 1", "program_roles P = roles_among 0 P.functions", "program_roles P = roles_among 1 P.functions"),
         (
             "role_function: the number of the role",
             "role_function P n = option_map (λ (role : Role). role.function) (slice_get (program_roles P) n)",
             "role_function P n = option_map (λ (role : Role). n) (slice_get (program_roles P) n)",
         ),
-        ("some_passes: of none", "some_passes test [] = false", "some_passes test [] = true"),
-        ("has_auth_within: every leaf", "has_auth_within types opened t = false", "has_auth_within types opened t = true"),
         ("role_parameters: an inner function's", "role_parameters Inner state argument = []", "role_parameters Inner state argument = argument ∷ []"),
         (
             "role_parameters: an init takes the state",
@@ -287,13 +298,8 @@ CHANGES = {
             "role_parameters Init state argument = state ∷ []",
         ),
         ("role_result: an inner function makes a state", "role_result Inner state answer = answer", "role_result Inner state answer = state"),
-        ("is_entered: no function", "is_entered kind = true", "is_entered kind = false"),
         ("ReadsState: no query", "ReadsState Query = Unit {0}", "ReadsState Query = ⊥"),
         ("ReadsState: no update", "ReadsState Update = Unit {0}", "ReadsState Update = ⊥"),
-        ("role_among: where none is", "role_among [] name = None", "role_among [] name = Some 0"),
-        ("role_with: the first function", "  function = f;\n", "  function = 0;\n"),
-        ("role_with: another kind", "  kind = g.kind;\n", "  kind = Query;\n"),
-        ("role_with: no name", "  name = g.name;\n", "  name = [];\n"),
     ],
     "Projection": [
         (

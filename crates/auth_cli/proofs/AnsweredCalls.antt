@@ -26,10 +26,12 @@ use Rattle.auth_types.specs.CheckedPrograms.{Checked, checked}
 use Rattle.auth_types.specs.CheckedPrograms as checking
 use Rattle.object_meaning.specs.Accepting.{Acceptance, accepting}
 use Rattle.object_meaning.specs.Accepting as object
-use Rattle.file_commands.specs.Answer.{answer_with, audited_answer, call_audit_answer, command_answer, fetched_answer, judged_answer, mirror_read, mirrored_answer, callee_of, proof_answer, proved_answer, verified_answer}
+use Rattle.file_commands.specs.Answer.{answer_with, audited_answer, call_audit_answer, command_answer, fetched_answer, judged_answer, mirror_read, mirrored_answer, proof_answer, proved_answer, verified_answer}
+use Rattle.file_commands.specs.AcceptedAnswers.{callee_of}
 use Rattle.file_commands.specs.RoleInputs.{RoleCall, with_fueled_role, with_ideal_call, with_passed, with_role_at, with_role_call}
 use Rattle.file_commands.specs.FileInputs.{image_read, max_file, state_read, with_bytes, with_file, with_fuel, with_image, with_program_bytes, with_program_file, with_object_or_text, with_literal, with_number, with_program, with_root, with_state, with_state_read}
-use Rattle.file_commands.specs.AnswerForms.{Answer, input_refused, refusal_status, refused}
+use Rattle.file_commands.specs.AnswerForms.{Answer}
+use Rattle.file_commands.specs.RefusedAnswers.{input_refused, refusal_status, refused}
 use Rattle.file_commands.specs.Answer.{with_kept, with_mirror, with_mirror_file, with_pieces}
 use Rattle.file_commands.specs.Arguments.{fuel_of}
 use Rattle.number_words.specs.Numbers.{number_within}
@@ -38,7 +40,8 @@ use Rattle.file_commands.specs.Codes.{code}
 use Rattle.file_commands.specs.FilePrograms.{begins_as_object, constructor_names_of_file, longest_program, of_acceptance, program_of_file, program_of_object}
 use Rattle.file_commands.specs.FueledRoles.{DigestedProgram, FueledRole, NamedProgram}
 use Rattle.file_commands.specs.IdealCalls.{IdealCall}
-use Rattle.file_commands.specs.NamedCalls.{KeepsProgram, NamesInputs, NamesRole, named_program}
+use Rattle.file_commands.specs.NamedCalls.{KeepsProgram, NamesInputs, NamesRole}
+use Rattle.file_commands.specs.NamedPrograms.{named_program}
 use Rattle.file_commands.specs.ProvedCalls.{CallsProve}
 use Rattle.file_commands.specs.RoleCalls.{is_called, passed_literal, program_called}
 use Rattle.file_commands.specs.TextPrograms.{FileProgram, IsProgram, IsRefused, of_checked, of_parsed, program_of_text}

@@ -9,12 +9,13 @@ use Rattle.command_words.specs.declared.command.Command.TheVariants.{Audit, Prov
 use Rattle.ideal_meaning.specs.Ideal.{Outcome, Done, Trapped, Out}
 use Rattle.collision_audit.specs.Splits.{Split}
 use Rattle.file_commands.specs.Answer.{answer, call_audit_answer, called_answer, command_answer, proof_answer}
-use Rattle.file_commands.specs.OutcomeAnswers.{shallow_told}
+use Rattle.file_commands.specs.AcceptedAnswers.{shallow_told}
 use Rattle.file_commands.specs.AnswerForms.{Answer}
 use Rattle.number_words.specs.Numbers.{is_number, number_within}
 use Rattle.file_commands.specs.AuditedCalls.{CallsAudit, IsAudited, SplitsAt, TellsAnAudit}
 use Rattle.file_commands.specs.Codes.{code}
-use Rattle.file_commands.specs.Ending.{EndsAnswered, EndsAs, IsOfFault, IsToldAs, Outside}
+use Rattle.file_commands.specs.Ending.{EndsAnswered, EndsAs, IsOfFault, IsToldAs}
+use Rattle.file_commands.specs.Outsides.{Outside}
 use Rattle.file_commands.specs.FueledRoles.{FueledRole}
 use Rattle.file_commands.specs.IdealCalls.{IdealCall, call_audit, called_program, projected_outcome}
 use Rattle.file_commands.specs.ProvedCalls.{CallsProve, IsProved}

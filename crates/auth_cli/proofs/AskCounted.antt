@@ -7,7 +7,8 @@ use Rattle.script_play.specs.declared.halt.Halt.TheVariants as halt
 use Rattle.file_commands.specs.Answer.{Asking}
 use Rattle.file_commands.specs.AnswerForms.{Answer}
 use Rattle.auth_cli.specs.Asking.{AskCounts, EndsAsking, EndsPlay, FailsToDial, IsEndTold, PlayEnd, PlayFaults, PlayWrites}
-use Rattle.file_commands.specs.Ending.{EndsAs, Outside}
+use Rattle.file_commands.specs.Ending.{EndsAs}
+use Rattle.file_commands.specs.Outsides.{Outside}
 use Rattle.auth_cli.specs.NetFaults.{NetFaults, NetRose}
 use Rattle.auth_cli.specs.OnlineRuns.{CountsBy, NetSeen}
 use Rattle.file_commands.specs.Statuses.{MayAnswer}

@@ -7,7 +7,7 @@ use Rattle.lam_outside.specs.Told.{Contents, Names}
 use Rattle.file_commands.specs.Answer.{Asking, answer_with, unasked_answer, with_asking}
 use Rattle.file_commands.specs.AnswerForms.{Answer}
 use Rattle.auth_cli.specs.Asking.{EndsAsking, IsOfWords, MeansAsking}
-use Rattle.file_commands.specs.Ending.{Outside}
+use Rattle.file_commands.specs.Outsides.{Outside}
 use Rattle.auth_cli.specs.OnlineRuns.{NetSeen}
 use Rattle.auth_cli.specs.ToldNumbers.{TellsPort}
 use Rattle.file_commands.specs.Reaching.{IsReached}

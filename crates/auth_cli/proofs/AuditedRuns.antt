@@ -11,7 +11,7 @@ use Rattle.collision_audit.specs.Audits.{Audit, Collides, Judges, unless_split, 
 use Rattle.collision_audit.specs.Splits.{Split, offered_in}
 use Rattle.collision_audit.proofs.FirstSplits.{split_is_found}
 use Rattle.file_commands.specs.Answer.{agreeing, audit_told, call_audit_answer}
-use Rattle.file_commands.specs.OutcomeAnswers.{shallow_told}
+use Rattle.file_commands.specs.AcceptedAnswers.{shallow_told}
 use Rattle.file_commands.specs.AuditedCalls.{AgreesOnOutcome, AuditSays, SplitsAt}
 use Rattle.file_commands.specs.IdealCalls.{IdealCall, call_audit, called_program, values_called}
 use Rattle.file_commands.specs.declared.status.Status.{Status}

@@ -4,7 +4,8 @@ use Rattle.command_words.specs.Invocations.{Invocation, invocation_of}
 use Rattle.lam_outside.specs.Told.{Contents, Names}
 use Rattle.file_commands.specs.Answer.{answer, called_answer, command_answer}
 use Rattle.file_commands.specs.Codes.{code}
-use Rattle.file_commands.specs.Ending.{EndsAs, IsOfRefused, Outside}
+use Rattle.file_commands.specs.Ending.{EndsAs, IsOfRefused}
+use Rattle.file_commands.specs.Outsides.{Outside}
 use Rattle.file_commands.specs.Reaching.{IsReached}
 use Rattle.file_commands.specs.Statuses.{MayAnswer}
 use Rattle.file_commands.specs.Telling.{Tells}

@@ -4,7 +4,8 @@ use Rattle.std.specs.List.{concat}
 use Rattle.std.specs.Io.KnownBytes.{append_known}
 use Rattle.lam_outside.specs.Causes.{Rose}
 use Rattle.lam_outside.specs.Links.{Linked}
-use Rattle.file_commands.specs.Ending.{Outside, WritesPart}
+use Rattle.file_commands.specs.Ending.{WritesPart}
+use Rattle.file_commands.specs.Outsides.{Outside}
 use Rattle.file_commands.specs.Telling.{TellsText}
 use Rattle.file_commands.specs.declared.status.Status.{Status}
 use Rattle.auth_cli.specs.Courses.{AreLinesTold, AreMade, Course, HasFaults, IsListening, NotListening, NotWritten, Served, WithoutMemory, WritesFront, course_status, greeting_of}

@@ -6,7 +6,8 @@ use Rattle.ideal_meaning.specs.Ideal.{Done, Trapped, Out}
 use Rattle.lam_outside.specs.Told.{Contents}
 use Rattle.file_commands.specs.Answer.{Drawing}
 use Rattle.file_commands.specs.AnswerForms.{Answer}
-use Rattle.file_commands.specs.Ending.{EndsAs, Outside}
+use Rattle.file_commands.specs.Ending.{EndsAs}
+use Rattle.file_commands.specs.Outsides.{Outside}
 use Rattle.file_commands.specs.Statuses.{MayAnswer}
 use Rattle.file_commands.specs.Telling.{TellsText}
 use Rattle.file_commands.specs.declared.status.Status.{Status}

@@ -17,7 +17,7 @@ use Rattle.wire_form.specs.MovedBytes.{Moves}
 use Rattle.wire_form.proofs.Moving.{moves_on}
 use Rattle.file_commands.specs.Answer.{Drawing}
 use Rattle.file_commands.specs.RoleInputs.{RoleCall}
-use Rattle.file_commands.specs.Ending.{Outside}
+use Rattle.file_commands.specs.Outsides.{Outside}
 use Rattle.file_commands.specs.RoleCalls.{program_called}
 use Rattle.file_commands.specs.declared.status.Status.{Status}
 use Rattle.auth_cli.specs.DrawSteps.{AreGivenOn, EndsOnLink, IsJudgedOn, Judged, JudgesOn}

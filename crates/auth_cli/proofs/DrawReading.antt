@@ -7,7 +7,8 @@ use Rattle.printed_lines.specs.declared.refusal.InputFault.{InputFault}
 use Rattle.printed_lines.specs.declared.refusal.InputFault.TheVariants.{Number, RoleKind, RoleUnknown}
 use Rattle.file_commands.specs.RoleInputs.{with_role_at}
 use Rattle.file_commands.specs.FileInputs.{with_fuel, with_number}
-use Rattle.file_commands.specs.AnswerForms.{Answer, input_refused, says}
+use Rattle.file_commands.specs.AnswerForms.{Answer, says}
+use Rattle.file_commands.specs.RefusedAnswers.{input_refused}
 use Rattle.file_commands.specs.Arguments.{fuel_of}
 use Rattle.file_commands.specs.FueledRoles.{FueledRole, NamedProgram}
 use Rattle.file_commands.specs.RoleCalls.{is_called}

@@ -6,7 +6,7 @@ use Rattle.command_words.specs.declared.command.Command.TheVariants.{Draw}
 use Rattle.lam_outside.specs.Told.{Contents, Names}
 use Rattle.file_commands.specs.Answer.{Drawing, answer_with, undrawn_answer, with_drawing}
 use Rattle.file_commands.specs.AnswerForms.{Answer}
-use Rattle.file_commands.specs.Ending.{Outside}
+use Rattle.file_commands.specs.Outsides.{Outside}
 use Rattle.file_commands.specs.Reaching.{IsReached}
 use Rattle.file_commands.specs.declared.status.Status.{Status}
 use Rattle.file_commands.proofs.Words.{apart, reached_apart, text_at, texts_from}

@@ -4,9 +4,10 @@ use Rattle.std.specs.List.{concat}
 use Rattle.ideal_meaning.specs.Checked.{Verdict}
 use Rattle.piece_fetch.specs.Verdicts.{VerdictCause}
 use Rattle.piece_fetch.specs.declared.verdict.FetchVerdict.TheVariants as judged
-use Rattle.file_commands.specs.OutcomeAnswers.{shallow_told}
+use Rattle.file_commands.specs.AcceptedAnswers.{shallow_told}
 use Rattle.file_commands.specs.RoleInputs.{RoleCall}
-use Rattle.file_commands.specs.AnswerForms.{Answer, says, verdict_answer}
+use Rattle.file_commands.specs.AnswerForms.{Answer, says}
+use Rattle.file_commands.specs.RefusedAnswers.{verdict_answer}
 use Rattle.file_commands.specs.FetchedCalls.{IsNoFault, ReportsVerdict, TellsVerdict}
 use Rattle.file_commands.specs.Halting.{Finds, Found, WithoutFiles, halt_line, halt_status, line_of, status_of}
 use Rattle.file_commands.specs.RoleCalls.{program_called, result_called}

@@ -4,7 +4,7 @@ use Rattle.command_words.specs.declared.command.Command.TheVariants.{Host}
 use Rattle.printed_lines.specs.declared.refusal.Refusal.TheVariants as refusal
 use Rattle.session_meaning.specs.Server.{Server}
 use Rattle.file_commands.specs.Answer.{Serving}
-use Rattle.file_commands.specs.Ending.{Outside}
+use Rattle.file_commands.specs.Outsides.{Outside}
 use Rattle.file_commands.specs.Halting.{halt_status}
 use Rattle.file_commands.specs.Statuses.{MayAnswer}
 use Rattle.file_commands.specs.Telling.{Tells}

@@ -7,7 +7,8 @@ use Rattle.lam_outside.specs.Causes.{Rose}
 use Rattle.lam_outside.specs.Told.{Contents}
 use Rattle.file_commands.specs.Answer.{Serving}
 use Rattle.file_commands.specs.AnswerForms.{Answer}
-use Rattle.file_commands.specs.Ending.{EndsAs, Outside}
+use Rattle.file_commands.specs.Ending.{EndsAs}
+use Rattle.file_commands.specs.Outsides.{Outside}
 use Rattle.file_commands.specs.Halting.{HaltsAs}
 use Rattle.file_commands.specs.Telling.{Tells}
 use Rattle.file_commands.specs.declared.report.Halt.{Halt}

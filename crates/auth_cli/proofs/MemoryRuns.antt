@@ -12,8 +12,10 @@ use Rattle.ideal_meaning.specs.Examples.{unit_program}
 use Rattle.lam_outside.specs.Causes.{Rose}
 use Rattle.lam_outside.specs.Told.{Contents}
 use Rattle.file_commands.specs.Answer.{Founding, answer_with}
-use Rattle.file_commands.specs.AnswerForms.{Answer, usage_answer}
-use Rattle.file_commands.specs.Ending.{EndsAs, IsOfRefused, Outside}
+use Rattle.file_commands.specs.AnswerForms.{Answer}
+use Rattle.file_commands.specs.RefusedAnswers.{usage_answer}
+use Rattle.file_commands.specs.Ending.{EndsAs, IsOfRefused}
+use Rattle.file_commands.specs.Outsides.{Outside}
 use Rattle.file_commands.specs.Telling.{Tells}
 use Rattle.file_commands.specs.declared.report.Halt.TheVariants.{NoMemory}
 use Rattle.file_commands.specs.declared.status.Status.{Status}

@@ -6,7 +6,8 @@ use Rattle.printed_lines.specs.declared.refusal.Argument.TheVariants.{Connection
 use Rattle.printed_lines.specs.declared.refusal.InputFault.TheVariants.{Number}
 use Rattle.file_commands.specs.Answer.{Mirroring, with_mirror_file}
 use Rattle.file_commands.specs.FileInputs.{with_number}
-use Rattle.file_commands.specs.AnswerForms.{Answer, input_refused}
+use Rattle.file_commands.specs.AnswerForms.{Answer}
+use Rattle.file_commands.specs.RefusedAnswers.{input_refused}
 use Rattle.file_commands.specs.Arguments.{most_links, positive_within}
 use Rattle.file_commands.specs.declared.status.Status.TheVariants.{InputRefused}
 use Rattle.auth_cli.specs.PreparedMirrors.{mirroring_by}

@@ -6,7 +6,8 @@ use Rattle.command_words.specs.declared.command.Command.TheVariants.{Mirror}
 use Rattle.lam_outside.specs.Told.{Contents, Names}
 use Rattle.file_commands.specs.Answer.{Mirroring, answer_with, unmirrored_answer, with_mirroring}
 use Rattle.file_commands.specs.AnswerForms.{Answer}
-use Rattle.file_commands.specs.Ending.{EndsAs, Outside}
+use Rattle.file_commands.specs.Ending.{EndsAs}
+use Rattle.file_commands.specs.Outsides.{Outside}
 use Rattle.file_commands.specs.Reaching.{IsReached}
 use Rattle.file_commands.specs.Statuses.{MayAnswer}
 use Rattle.file_commands.specs.declared.status.Status.{Status}

@@ -7,9 +7,11 @@ use Rattle.command_words.specs.declared.command.Command.TheVariants.{Ask, Draw, 
 use Rattle.lam_outside.specs.Causes.{Rose}
 use Rattle.lam_outside.specs.Told.{Contents, Names}
 use Rattle.file_commands.specs.Answer.{answer, answer_with, called_answer}
-use Rattle.file_commands.specs.AnswerForms.{Answer, usage_answer}
+use Rattle.file_commands.specs.AnswerForms.{Answer}
+use Rattle.file_commands.specs.RefusedAnswers.{usage_answer}
 use Rattle.file_commands.specs.Codes.{code}
-use Rattle.file_commands.specs.Ending.{EndsAs, Outside}
+use Rattle.file_commands.specs.Ending.{EndsAs}
+use Rattle.file_commands.specs.Outsides.{Outside}
 use Rattle.file_commands.specs.Reaching.{IsReached, ReachedAt}
 use Rattle.file_commands.specs.TrueFetches.{IsTrueFetch}
 use Rattle.file_commands.specs.TrueLines.{IsTrueLine}

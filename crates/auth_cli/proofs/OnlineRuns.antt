@@ -5,7 +5,8 @@ use Rattle.lam_outside.specs.Moments.{Moment}
 use Rattle.lam_outside.specs.Told.{Contents, Names, Stores}
 use Rattle.printed_lines.specs.declared.refusal.Refusal.TheVariants as refusal
 use Rattle.file_commands.specs.AnswerForms.{Answer}
-use Rattle.file_commands.specs.Ending.{EndsAnswered, EndsAs, Outside}
+use Rattle.file_commands.specs.Ending.{EndsAnswered, EndsAs}
+use Rattle.file_commands.specs.Outsides.{Outside}
 use Rattle.file_commands.specs.Halting.{MayHalt}
 use Rattle.file_commands.specs.Reaching.{HaltsAtReached, IsReached}
 use Rattle.file_commands.specs.declared.report.Halt.{Halt}

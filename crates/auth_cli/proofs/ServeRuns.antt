@@ -7,7 +7,7 @@ use Rattle.command_words.specs.declared.command.Command.TheVariants.{Serve}
 use Rattle.lam_outside.specs.Told.{Contents, Names}
 use Rattle.file_commands.specs.Answer.{Serving, ServingNumbers, answer_with, unserved_answer, with_serving}
 use Rattle.file_commands.specs.AnswerForms.{Answer}
-use Rattle.file_commands.specs.Ending.{Outside}
+use Rattle.file_commands.specs.Outsides.{Outside}
 use Rattle.file_commands.specs.Reaching.{IsReached}
 use Rattle.auth_cli.specs.PreparedServers.{IsPrepared, numbers_held}
 use Rattle.auth_cli.specs.ToldNumbers.{TellNumbers, numbers_served}

@@ -7,7 +7,7 @@ use Rattle.lam_outside.specs.Causes.{Rose}
 use Rattle.printed_lines.specs.Lines.{listening_line}
 use Rattle.session_meaning.specs.Server.{Server}
 use Rattle.file_commands.specs.Answer.{Serving}
-use Rattle.file_commands.specs.Ending.{Outside}
+use Rattle.file_commands.specs.Outsides.{Outside}
 use Rattle.auth_cli.specs.ServeSteps.{IsCourseTold, IsStorageTold}
 use Rattle.auth_cli.specs.Courses.{Course, IsListening, NotListening, NotWritten, Served, WithoutMemory, WritesFront, course_status, greeting_of}
 use Rattle.auth_cli.specs.Serving.{IsStored, IsTooLong, LacksMemory, Storage, StoreFails, TellsPart, TellsWhole, course_lines, server_lines, serving_text, storage_lines, storage_status}

@@ -13,11 +13,13 @@ use Rattle.core_terms.specs.Values.{Value}
 use Rattle.ideal_meaning.specs.Checked.{Verdict}
 use Rattle.ideal_meaning.specs.Ideal.{Outcome, Done, Trapped, Out}
 use Rattle.file_commands.specs.Answer.{answer, called_answer, fetched_answer, fetched_verdict, mirror_read, mirrored_answer}
-use Rattle.file_commands.specs.OutcomeAnswers.{shallow_told}
+use Rattle.file_commands.specs.AcceptedAnswers.{shallow_told}
 use Rattle.file_commands.specs.RoleInputs.{RoleCall}
-use Rattle.file_commands.specs.AnswerForms.{Answer, verdict_answer}
+use Rattle.file_commands.specs.AnswerForms.{Answer}
+use Rattle.file_commands.specs.RefusedAnswers.{verdict_answer}
 use Rattle.file_commands.specs.Codes.{code}
-use Rattle.file_commands.specs.Ending.{Outside, EndsAs, IsToldAs}
+use Rattle.file_commands.specs.Ending.{EndsAs, IsToldAs}
+use Rattle.file_commands.specs.Outsides.{Outside}
 use Rattle.file_commands.specs.FueledRoles.{FueledRole}
 use Rattle.file_commands.specs.NamedCalls.{NamesRole}
 use Rattle.file_commands.specs.RoleCalls.{passed_literal, program_called}

@@ -13,15 +13,19 @@ use Rattle.core_terms.specs.Terms.{Program}
 use Rattle.core_terms.specs.Values.{Value}
 use Rattle.ideal_meaning.specs.Ideal.{Outcome}
 use Rattle.ideal_meaning.specs.Checked.{Verdict, BadState, BadArgument, Rejected, Accepted}
-use Rattle.file_commands.specs.Answer.{accepted_answer, answer, answer_with, called_answer, callee_of, judged_answer, verified_answer}
+use Rattle.file_commands.specs.Answer.{answer, answer_with, called_answer, judged_answer, verified_answer}
+use Rattle.file_commands.specs.AcceptedAnswers.{accepted_answer, callee_of}
 use Rattle.file_commands.specs.RoleInputs.{RoleCall, role_verdict}
-use Rattle.file_commands.specs.AnswerForms.{Answer, verdict_answer}
+use Rattle.file_commands.specs.AnswerForms.{Answer}
+use Rattle.file_commands.specs.RefusedAnswers.{verdict_answer}
 use Rattle.file_commands.specs.Arguments.{fuel_of}
 use Rattle.file_commands.specs.Codes.{code}
-use Rattle.file_commands.specs.Ending.{Outside, EndsAs, IsToldAs}
+use Rattle.file_commands.specs.Ending.{EndsAs, IsToldAs}
+use Rattle.file_commands.specs.Outsides.{Outside}
 use Rattle.file_commands.specs.FilePrograms.{program_of_file}
 use Rattle.file_commands.specs.FueledRoles.{FueledRole, NamedProgram}
-use Rattle.file_commands.specs.NamedCalls.{NamesRole, named_program}
+use Rattle.file_commands.specs.NamedCalls.{NamesRole}
+use Rattle.file_commands.specs.NamedPrograms.{named_program}
 use Rattle.file_commands.specs.RoleCalls.{passed_literal, program_called}
 use Rattle.file_commands.specs.TextPrograms.{IsProgram}
 use Rattle.file_commands.specs.TrueLines.{CallsVerify, IsTrueLine, TellsOutcome, words_of}

@@ -11,11 +11,13 @@ use Rattle.core_terms.specs.Terms.{Program}
 use Rattle.core_terms.specs.Values.{Value, IsIdeal}
 use Rattle.core_terms.proofs.LawProofs.{projection_is_read_back, projection_keeps_limits, size_is_length}
 use Rattle.printed_lines.specs.declared.refusal.Argument.TheVariants as named
-use Rattle.file_commands.specs.Answer.{accepted_answer, callee_of, verified_answer}
+use Rattle.file_commands.specs.Answer.{verified_answer}
+use Rattle.file_commands.specs.AcceptedAnswers.{accepted_answer, callee_of}
 use Rattle.file_commands.specs.OutcomeAnswers.{state_projection}
 use Rattle.file_commands.specs.RoleInputs.{RoleCall, with_fueled_role, with_passed, with_role_call}
 use Rattle.file_commands.specs.FileInputs.{max_file, state_read, with_bytes, with_literal, with_state, with_state_read}
-use Rattle.file_commands.specs.AnswerForms.{Answer, verdict_answer}
+use Rattle.file_commands.specs.AnswerForms.{Answer}
+use Rattle.file_commands.specs.RefusedAnswers.{verdict_answer}
 use Rattle.file_commands.specs.FueledRoles.{FueledRole}
 use Rattle.file_commands.specs.IdealCalls.{IdealCall, called_program}
 use Rattle.file_commands.specs.NamedCalls.{NamesInputs, NamesRole}

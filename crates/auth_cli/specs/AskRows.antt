@@ -19,7 +19,8 @@ use Rattle.script_play.specs.declared.halt.Halt.TheVariants as halt
 use Rattle.session_meaning.specs.Messages.{Messages, Reply, messages, reply_of}
 use Rattle.file_commands.specs.Answer.{Asking, answer_with, with_asking}
 use Rattle.file_commands.specs.AnswerForms.{Answer}
-use Rattle.file_commands.specs.Ending.{EndsAs, Outside}
+use Rattle.file_commands.specs.Ending.{EndsAs}
+use Rattle.file_commands.specs.Outsides.{Outside}
 use Rattle.file_commands.specs.FilePrograms.{IsOfTextOrObject}
 use Rattle.file_commands.specs.Telling.{TellsText}
 use Rattle.auth_cli.specs.AskSteps.{IsHaltedFrom, IsPlayedFrom, PlayLinks, PlaysAndStores}

@@ -7,7 +7,7 @@ use Rattle.script_play.specs.declared.halt.Halt.TheVariants as halt
 use Rattle.session_meaning.specs.Messages.{messages, reply_of}
 use Rattle.file_commands.specs.Answer.{Asking}
 use Rattle.auth_cli.specs.Asking.{IsEndTold, IsStateStored, PlayEnd, PlayWrites, asked_play}
-use Rattle.file_commands.specs.Ending.{Outside}
+use Rattle.file_commands.specs.Outsides.{Outside}
 use Rattle.file_commands.specs.declared.status.Status.{Status}
 
 -- The play was played on a link on which these bytes come, as far as its end says.

@@ -23,7 +23,8 @@ use Rattle.serve_links.specs.Connections.{AnyKept}
 use Rattle.serve_links.specs.ServedLinks.{AreServedInPart}
 use Rattle.file_commands.specs.Answer.{Serving, answer_with, with_serving}
 use Rattle.file_commands.specs.AnswerForms.{Answer}
-use Rattle.file_commands.specs.Ending.{EndsAs, Outside}
+use Rattle.file_commands.specs.Ending.{EndsAs}
+use Rattle.file_commands.specs.Outsides.{Outside}
 use Rattle.auth_cli.specs.NetFaults.{NetFaults}
 use Rattle.auth_cli.specs.OnlineRuns.{CountsBy, NetSeen}
 use Rattle.auth_cli.specs.ToldNumbers.{TellNumbers, numbers_served}

@@ -29,11 +29,13 @@ use Rattle.printed_lines.specs.Lines.{link_fault_line}
 use Rattle.session_meaning.specs.FetchMessages.{LinkAnswers}
 use Rattle.wire_form.specs.MovedBytes.{Moves}
 use Rattle.file_commands.specs.Answer.{Drawing, answer_with, with_drawing}
-use Rattle.file_commands.specs.OutcomeAnswers.{shallow_told}
+use Rattle.file_commands.specs.AcceptedAnswers.{shallow_told}
 use Rattle.file_commands.specs.RoleInputs.{RoleCall, with_fueled_role}
-use Rattle.file_commands.specs.AnswerForms.{Answer, verdict_answer}
+use Rattle.file_commands.specs.AnswerForms.{Answer}
+use Rattle.file_commands.specs.RefusedAnswers.{verdict_answer}
 use Rattle.file_commands.specs.Arguments.{fuel_of}
-use Rattle.file_commands.specs.Ending.{EndsAs, Outside}
+use Rattle.file_commands.specs.Ending.{EndsAs}
+use Rattle.file_commands.specs.Outsides.{Outside}
 use Rattle.file_commands.specs.FetchedCalls.{TellsVerdict}
 use Rattle.file_commands.specs.FueledRoles.{FueledRole, NamedProgram}
 use Rattle.file_commands.specs.RoleCalls.{is_called, kind_called, program_called, result_called}

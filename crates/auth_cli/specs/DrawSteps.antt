@@ -12,9 +12,9 @@ use Rattle.piece_fetch.specs.declared.verdict.FetchVerdict.TheVariants as judged
 use Rattle.printed_lines.specs.Lines.{link_fault_line}
 use Rattle.session_meaning.specs.FetchMessages.{LinkAnswers}
 use Rattle.wire_form.specs.MovedBytes.{Moves}
-use Rattle.file_commands.specs.OutcomeAnswers.{shallow_told}
+use Rattle.file_commands.specs.AcceptedAnswers.{shallow_told}
 use Rattle.file_commands.specs.RoleInputs.{RoleCall}
-use Rattle.file_commands.specs.AnswerForms.{verdict_answer}
+use Rattle.file_commands.specs.RefusedAnswers.{verdict_answer}
 use Rattle.file_commands.specs.FetchedCalls.{TellsVerdict}
 use Rattle.file_commands.specs.RoleCalls.{program_called, result_called}
 use Rattle.file_commands.specs.Telling.{TellsText}

@@ -22,11 +22,13 @@ use Rattle.link_ends.specs.MoreLinks.{bytes_on}
 use Rattle.printed_lines.specs.Lines.{link_fault_line}
 use Rattle.session_meaning.specs.FetchMessages.{LinkAnswers}
 use Rattle.file_commands.specs.Answer.{Drawing, answer_with, with_drawing}
-use Rattle.file_commands.specs.OutcomeAnswers.{shallow_told}
+use Rattle.file_commands.specs.AcceptedAnswers.{shallow_told}
 use Rattle.file_commands.specs.RoleInputs.{RoleCall}
-use Rattle.file_commands.specs.AnswerForms.{Answer, verdict_answer}
+use Rattle.file_commands.specs.AnswerForms.{Answer}
+use Rattle.file_commands.specs.RefusedAnswers.{verdict_answer}
 use Rattle.file_commands.specs.Arguments.{fuel_of}
-use Rattle.file_commands.specs.Ending.{Outside, EndsAs}
+use Rattle.file_commands.specs.Ending.{EndsAs}
+use Rattle.file_commands.specs.Outsides.{Outside}
 use Rattle.file_commands.specs.RoleCalls.{is_called, kind_called, program_called, result_called}
 use Rattle.file_commands.specs.FilePrograms.{IsOfTextOrObject}
 use Rattle.file_commands.specs.Telling.{TellsText}

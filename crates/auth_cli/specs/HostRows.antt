@@ -21,7 +21,7 @@ use Rattle.version_journal.specs.Journals.{SpellsJournal}
 use Rattle.version_journal.specs.Synced.{IsSynced}
 use Rattle.file_commands.specs.Answer.{Serving}
 use Rattle.file_commands.specs.AnswerForms.{Answer}
-use Rattle.file_commands.specs.Ending.{Outside}
+use Rattle.file_commands.specs.Outsides.{Outside}
 use Rattle.file_commands.specs.declared.status.Status.{Status}
 use Rattle.file_commands.specs.declared.status.Status.TheVariants.{Done, ReadFault, WriteFault, NoMemory}
 use Rattle.journal_commands.specs.DisksSeen.{DiskSeen, FromChosen, WritesNothing}

@@ -19,7 +19,8 @@ use Rattle.version_journal.specs.Journals.{SpellsJournal}
 use Rattle.file_commands.specs.Answer.{Serving, serving_of, with_serving_numbers}
 use Rattle.file_commands.specs.FileInputs.{with_program_file}
 use Rattle.file_commands.specs.AnswerForms.{Answer}
-use Rattle.file_commands.specs.Ending.{EndsAs, Outside}
+use Rattle.file_commands.specs.Ending.{EndsAs}
+use Rattle.file_commands.specs.Outsides.{Outside}
 use Rattle.file_commands.specs.declared.status.Status.{Status}
 use Rattle.file_commands.specs.declared.status.Status.TheVariants.{WriteFault}
 use Rattle.journal_commands.specs.DisksSeen.{DiskSeen, FromChosen, WritesNothing, file_in, file_on, with_disk}

@@ -16,7 +16,8 @@ use Rattle.piece_mirror.specs.Tables.{bytes_of}
 use Rattle.printed_lines.specs.Lines.{listening_line}
 use Rattle.file_commands.specs.Answer.{Mirroring, answer_with, with_mirroring}
 use Rattle.file_commands.specs.AnswerForms.{Answer}
-use Rattle.file_commands.specs.Ending.{EndsAs, Outside}
+use Rattle.file_commands.specs.Ending.{EndsAs}
+use Rattle.file_commands.specs.Outsides.{Outside}
 use Rattle.file_commands.specs.declared.status.Status.{Status}
 use Rattle.file_commands.specs.declared.status.Status.TheVariants.{Done, ReadFault, WriteFault, NoMemory}
 use Rattle.auth_cli.specs.CourseRows.{rose}

@@ -12,7 +12,8 @@ use Rattle.piece_mirror.specs.Answers.{given_by}
 use Rattle.printed_lines.specs.Lines.{link_fault_line, listening_line}
 use Rattle.file_commands.specs.Answer.{Mirroring, answer_with, with_mirroring}
 use Rattle.file_commands.specs.AnswerForms.{Answer}
-use Rattle.file_commands.specs.Ending.{Outside, EndsAs}
+use Rattle.file_commands.specs.Ending.{EndsAs}
+use Rattle.file_commands.specs.Outsides.{Outside}
 use Rattle.auth_cli.specs.Courses.{AreLinesTold, AreMade, Course, HasFaults, NotListening, NotWritten, Served, WithoutMemory, fault_lines, listened_behind}
 use Rattle.auth_cli.specs.NetFaults.{NetFaults}
 use Rattle.auth_cli.specs.OnlineRuns.{CountsBy, NetSeen}

@@ -22,7 +22,8 @@ use Rattle.file_commands.specs.Answer.{Serving, answer_with, with_serving}
 use Rattle.file_commands.specs.OutcomeAnswers.{state_image}
 use Rattle.file_commands.specs.FileInputs.{max_file}
 use Rattle.file_commands.specs.AnswerForms.{Answer}
-use Rattle.file_commands.specs.Ending.{Outside, EndsAs}
+use Rattle.file_commands.specs.Ending.{EndsAs}
+use Rattle.file_commands.specs.Outsides.{Outside}
 use Rattle.auth_cli.specs.Courses.{AreMade, Course, HasFaults, IsListening, NotListening, NotWritten, Served, WithoutMemory, WritesFront, course_status, fault_lines, greeting_of, listened_behind}
 use Rattle.auth_cli.specs.NetFaults.{NetFaults}
 use Rattle.auth_cli.specs.OnlineRuns.{CountsBy, NetSeen}

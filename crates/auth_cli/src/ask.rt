@@ -9,7 +9,7 @@ ghost use Rattle.file_commands.specs.Answer.{answer_with};
 ghost use Rattle.auth_cli.specs.AskSteps.{PlaysAndStores};
 ghost use Rattle.auth_cli.specs.Asking.{AskCounts, EndsAsking, IsAsk, IsEndTold, IsStateStored, asked_play};
 ghost use Rattle.script_play.specs.Prompt.{IsPromptOn};
-ghost use Rattle.file_commands.specs.Ending.{outside};
+ghost use Rattle.file_commands.specs.Outsides.{outside};
 ghost use Rattle.auth_cli.specs.NetFaults.{net_faults};
 ghost use Rattle.auth_cli.specs.OnlineRuns.{net_seen};
 ghost use Rattle.auth_cli.specs.PreparedClients.{IsReady, asked_by};

@@ -3,7 +3,7 @@ ghost use Rattle.std.specs.Prelude.{◌≡◌, ◌⊎◌, ℕ, List, length};
 ghost use Rattle.command_words.specs.Commands.{texts};
 ghost use Rattle.command_words.specs.declared.command.Command.TheVariants.{Host};
 ghost use Rattle.file_commands.specs.Answer.{Serving, answer_with};
-ghost use Rattle.file_commands.specs.Ending.{outside};
+ghost use Rattle.file_commands.specs.Outsides.{outside};
 ghost use Rattle.file_commands.specs.Reaching.{IsReached};
 ghost use Rattle.file_commands.specs.Statuses.{MayAnswer};
 ghost use Rattle.journal_commands.specs.DisksSeen.{DiskSeen, disk_seen};

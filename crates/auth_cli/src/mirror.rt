@@ -3,7 +3,7 @@ ghost use Rattle.std.specs.Prelude.{◌≡◌, ◌⊎◌, length};
 ghost use Rattle.command_words.specs.Commands.{texts};
 ghost use Rattle.command_words.specs.declared.command.Command.TheVariants.{Mirror};
 ghost use Rattle.file_commands.specs.Answer.{answer_with};
-ghost use Rattle.file_commands.specs.Ending.{outside};
+ghost use Rattle.file_commands.specs.Outsides.{outside};
 ghost use Rattle.file_commands.specs.Reaching.{IsReached};
 ghost use Rattle.file_commands.specs.Statuses.{MayAnswer};
 ghost use Rattle.auth_cli.specs.MirrorSteps.{IsEndTold, TellsMirroring};

@@ -5,7 +5,7 @@ ghost use Rattle.command_words.specs.Commands.{texts};
 ghost use Rattle.command_words.specs.declared.command.Command.TheVariants.{Serve};
 ghost use Rattle.serve_links.specs.HistoriesInCode.{HasSameCode};
 ghost use Rattle.file_commands.specs.Answer.{Serving, answer_with};
-ghost use Rattle.file_commands.specs.Ending.{outside};
+ghost use Rattle.file_commands.specs.Outsides.{outside};
 ghost use Rattle.auth_cli.specs.NetFaults.{net_faults};
 ghost use Rattle.auth_cli.specs.PreparedServers.{IsPrepared};
 ghost use Rattle.file_commands.specs.Reaching.{IsReached};

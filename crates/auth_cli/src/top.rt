@@ -14,7 +14,8 @@ ghost use Rattle.file_commands.specs.AuditedCalls.{CallsAudit, IsAudited, Splits
 ghost use Rattle.file_commands.specs.Codes.{code};
 ghost use Rattle.auth_cli.specs.Drawing.{CallsDraw, DrawsTrueOutcomes, IsDraw};
 ghost use Rattle.auth_cli.specs.Mirroring.{IsMirror};
-ghost use Rattle.file_commands.specs.Ending.{outside, EndsAs, IsOfFault, IsOfRefused, IsToldByCode, MayWrite, NoneRose, StoresSome, WritesPart, no_memory_text};
+ghost use Rattle.file_commands.specs.Ending.{EndsAs, IsOfFault, IsOfRefused, IsToldByCode, MayWrite, NoneRose, StoresSome, WritesPart, no_memory_text};
+ghost use Rattle.file_commands.specs.Outsides.{outside};
 ghost use Rattle.file_commands.specs.IdealCalls.{IdealCall};
 ghost use Rattle.auth_cli.specs.NetFaults.{NetRose, net_faults};
 ghost use Rattle.auth_cli.specs.NetRuns.{CallsNoDial, CallsNoDisk, CallsNoListen, CallsNoNet, EndsCommand, EndsRun, IsOfFiles, IsOffline, IsReadFaultAt, UsesNoDisk, UsesNoNet};

@@ -3,7 +3,7 @@ use Rattle.std.proofs.Common.{◌≡◌, ◌≢◌, ℕ, zero, suc, ◌+◌, Boo
 use Rattle.std.proofs.lemmas.Slice.Eq.{bytes_eq-Decides}
 use Rattle.core_terms.specs.Formats.{Format, Hash}
 use Rattle.core_terms.specs.Types.{Ty}
-use Rattle.ideal_meaning.specs.Checked.{IsSplitAt}
+use Rattle.ideal_meaning.specs.SplitPieces.{IsSplitAt}
 use Rattle.ideal_meaning.specs.Ideal.{Piece, bytes_of}
 use Rattle.collision_audit.specs.AuditLaws.{SplitIsFound, NoSplitIsFound}
 use Rattle.collision_audit.specs.Splits.{Split, IsSplit, first_split, split_from, split_with}

@@ -5,7 +5,7 @@ use Rattle.std.specs.Option.{option_and_then}
 use Rattle.core_terms.specs.Types.{Ty}
 use Rattle.core_terms.specs.Formats.{Format}
 use Rattle.core_terms.specs.Projection.{digest_at}
-use Rattle.ideal_meaning.specs.Checked.{IsSplitAt}
+use Rattle.ideal_meaning.specs.SplitPieces.{IsSplitAt}
 use Rattle.ideal_meaning.specs.Frames.{header, offered, offered_pieces}
 use Rattle.ideal_meaning.specs.Headline.{call_values}
 use Rattle.ideal_meaning.specs.Ideal.{Piece, honest_pieces}

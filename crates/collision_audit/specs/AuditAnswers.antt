@@ -6,6 +6,7 @@ use Rattle.core_terms.specs.Terms.{Program, function_at}
 use Rattle.core_terms.specs.Values.{Value}
 use Rattle.core_terms.specs.declared.digest.Digest.{Digest}
 use Rattle.ideal_meaning.specs.Checked as checked
+use Rattle.ideal_meaning.specs.SplitPieces as split_pieces
 use Rattle.ideal_meaning.specs.Headline.{call_values}
 use Rattle.ideal_meaning.specs.Ideal.{Outcome, honest_pieces}
 use Rattle.ideal_meaning.specs.Told.{cause_told}
@@ -31,4 +32,4 @@ TellsAudit P f audit (Err e) = ⊤
 -- nowhere do the pieces that the proof offers split from the honest ones
 abbrev pub HasNoSplit : Hash → Program → ℕ → (state argument : Value) → ℕ → List ℕ → Type 0
 HasNoSplit hash P f state argument k proof =
-    (i : ℕ) → checked.IsSplitAt (digest_at hash P) (offered_in P.format proof) (honest_pieces hash P f (call_values state argument) k) i → ⊥
+    (i : ℕ) → split_pieces.IsSplitAt (digest_at hash P) (offered_in P.format proof) (honest_pieces hash P f (call_values state argument) k) i → ⊥

@@ -7,7 +7,8 @@ use Rattle.core_terms.specs.RoleTypes.{IsRole, ReadsState, role_result}
 use Rattle.core_terms.specs.Terms.{Kind, Program}
 use Rattle.core_terms.specs.TypingRules.{IsTyped}
 use Rattle.core_terms.specs.Values.{Value, IsIdeal}
-use Rattle.ideal_meaning.specs.Checked.{Accepted, IsSplitAt}
+use Rattle.ideal_meaning.specs.Checked.{Accepted}
+use Rattle.ideal_meaning.specs.SplitPieces.{IsSplitAt}
 use Rattle.ideal_meaning.specs.Headline.{call_values}
 use Rattle.ideal_meaning.specs.Ideal.{Outcome, Piece, bytes_of, honest_pieces, ideal, outcome, outcome_projection}
 use Rattle.collision_audit.specs.Audits.{Collides, IsOnProof, Judges, audit_of, verdict_on_projections}

@@ -3,7 +3,7 @@ use Rattle.std.specs.Prelude.{◌≡◌, ℕ, zero, suc, List, [], ◌∷◌, dr
 use Rattle.core_terms.specs.Formats.{Format, Hash}
 use Rattle.core_terms.specs.Terms.{Program}
 use Rattle.core_terms.specs.Values.{Value}
-use Rattle.ideal_meaning.specs.Checked.{IsSplitAt}
+use Rattle.ideal_meaning.specs.SplitPieces.{IsSplitAt}
 use Rattle.ideal_meaning.specs.Frames.{Offer, NoMore, Offers, header, offered, offered_pieces}
 use Rattle.ideal_meaning.specs.Headline.{call_values}
 use Rattle.ideal_meaning.specs.Ideal.{Piece, bytes_of, honest_pieces}

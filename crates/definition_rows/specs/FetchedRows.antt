@@ -11,7 +11,8 @@ use Rattle.ideal_meaning.specs.Ideal.{Outcome, Done, Trapped, Out, Opened, bytes
 use Rattle.ideal_meaning.specs.PieceForms.{IsOfWhole, as_spelled, as_whole, front_at, further, read_behind}
 use Rattle.ideal_meaning.specs.Wire.{Wire}
 use Rattle.ideal_meaning.specs.Frames.{Breaks, Lacks, NoMore, Offers}
-use Rattle.ideal_meaning.specs.Checked.{Accepted, BadArgument, BadPiece, BadState, Broken, Cause, IsSplitAt, Missing, Rejected, Short, Taking, Verdict, WrongPiece, before_all}
+use Rattle.ideal_meaning.specs.Checked.{Accepted, BadArgument, BadPiece, BadState, Broken, Cause, Missing, Rejected, Short, Taking, Verdict, WrongPiece, before_all}
+use Rattle.ideal_meaning.specs.SplitPieces.{IsSplitAt}
 use Rattle.ideal_meaning.specs.Examples.{toy, unit_program}
 use Rattle.ideal_meaning.specs.Fetched.{Answered, Gave, GaveLast, Got, HoldsAll, IsBroken, IsLack, IsPiece, TrueFromOrSplit, answered, asking, ended, verdict_from, whole_pieces}
 use Rattle.ideal_meaning.specs.FetchLaws.{HasDigest, IsStore}

@@ -9,7 +9,8 @@ use Rattle.core_terms.specs.Terms.{Program}
 use Rattle.core_terms.specs.Values.{Value, UnitV, BoolV, IntV, PairV}
 use Rattle.ideal_meaning.specs.Run.{Run, Gives, Ends, Traps, TooBig}
 use Rattle.ideal_meaning.specs.Ideal.{Done, Opened, ideal, honest_pieces}
-use Rattle.ideal_meaning.specs.Checked.{Header, Verdict, WrongPiece, Accepted, Rejected, verdict, IsSplitAt}
+use Rattle.ideal_meaning.specs.Checked.{Header, Verdict, WrongPiece, Accepted, Rejected, verdict}
+use Rattle.ideal_meaning.specs.SplitPieces.{IsSplitAt}
 use Rattle.ideal_meaning.specs.Headline.{call_values}
 use Rattle.ideal_meaning.specs.Examples.{unit_program, pair_program, expression_program, values}
 use Rattle.ideal_meaning.specs.ExampleProofs.{file}

@@ -10,7 +10,8 @@ use Rattle.core_terms.specs.Projection.{digest_at}
 use Rattle.ideal_meaning.specs.Run.{Ends, Rejects, Opens}
 use Rattle.ideal_meaning.specs.Ideal.{Done, Piece, honest_pieces}
 use Rattle.ideal_meaning.specs.Frames.{NoByte, NoMore, Offers, Use, frame_bytes}
-use Rattle.ideal_meaning.specs.Checked.{Short, Cut, BadPiece, BadState, BadArgument, Accepted, Rejected, before_all, checked, checked_mode, take_piece, verdict, verdict_on, IsSplitAt}
+use Rattle.ideal_meaning.specs.Checked.{Short, Cut, BadPiece, BadState, BadArgument, Accepted, Rejected, before_all, checked, checked_mode, take_piece, verdict, verdict_on}
+use Rattle.ideal_meaning.specs.SplitPieces.{IsSplitAt}
 use Rattle.ideal_meaning.specs.Headline.{call_values}
 use Rattle.ideal_meaning.specs.Examples.{toy, unit_program, bool_program, two_bools_program, spin_program, pair_program}
 use Rattle.ideal_meaning.specs.ExampleProofs.{file, on_open}

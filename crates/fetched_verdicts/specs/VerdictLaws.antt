@@ -9,7 +9,8 @@ use Rattle.core_terms.specs.TypingRules.{IsTyped}
 use Rattle.core_terms.specs.Types.{Ty}
 use Rattle.core_terms.specs.Values.{Value, IsIdeal}
 use Rattle.ideal_meaning.specs.Agreement.{AllOpenedFit}
-use Rattle.ideal_meaning.specs.Checked.{Accepted, IsSplitAt}
+use Rattle.ideal_meaning.specs.Checked.{Accepted}
+use Rattle.ideal_meaning.specs.SplitPieces.{IsSplitAt}
 use Rattle.ideal_meaning.specs.Fetched.{Got, HoldsAll, TrueFromOrSplit, answered, verdict_from, whole_pieces}
 use Rattle.ideal_meaning.specs.FetchLaws.{IsStore}
 use Rattle.ideal_meaning.specs.Frames.{offered_pieces}

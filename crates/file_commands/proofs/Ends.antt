@@ -9,8 +9,10 @@ use Rattle.lam_outside.specs.Told.{Contents, Stores, AddsStores}
 use Rattle.printed_lines.specs.Lines.{refusal_line}
 use Rattle.printed_lines.specs.declared.refusal.Refusal.{Refusal}
 use Rattle.printed_lines.specs.declared.refusal.Refusal.TheVariants as refusal
-use Rattle.file_commands.specs.AnswerForms.{Answer, refused, refusal_status, says}
-use Rattle.file_commands.specs.Ending.{Outside, EndsAnswered, EndsAs, EndsOnSink, EndsInWriteFault, IsToldAs, MayWrite, StoresSome, WritesPart, lines_of, with_sink}
+use Rattle.file_commands.specs.AnswerForms.{Answer, says}
+use Rattle.file_commands.specs.RefusedAnswers.{refused, refusal_status}
+use Rattle.file_commands.specs.Ending.{EndsAnswered, EndsAs, EndsOnSink, EndsInWriteFault, IsToldAs, MayWrite, StoresSome, WritesPart, lines_of, with_sink}
+use Rattle.file_commands.specs.Outsides.{Outside}
 use Rattle.file_commands.specs.Halting.{Found, Finds, HaltCause, InHand, JudgementCause, MayHalt, MayHaltJudging, ending_status, line_of, status_of}
 use Rattle.file_commands.specs.Telling.{Tells}
 use Rattle.file_commands.specs.declared.report.Ending.{Ending}

@@ -6,7 +6,8 @@ use Rattle.std.specs.Io.KnownBytes.{append_known}
 use Rattle.lam_outside.specs.Causes.{Rose}
 use Rattle.lam_outside.specs.Told.{Contents, Stores, AddsStores}
 use Rattle.file_commands.specs.AnswerForms.{Answer}
-use Rattle.file_commands.specs.Ending.{Outside, EndsAnswered, EndsAs, EndsInWriteFault, IsToldAs, StoresSome, WritesPart, lines_of}
+use Rattle.file_commands.specs.Ending.{EndsAnswered, EndsAs, EndsInWriteFault, IsToldAs, StoresSome, WritesPart, lines_of}
+use Rattle.file_commands.specs.Outsides.{Outside}
 use Rattle.file_commands.specs.Halting.{HaltCause, JudgementCause, ending_status}
 use Rattle.file_commands.specs.Storing.{FindsOutput, StoresAndTells, stored_as}
 use Rattle.file_commands.specs.Telling.{Tells}

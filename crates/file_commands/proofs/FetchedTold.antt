@@ -20,8 +20,9 @@ use Rattle.piece_fetch.specs.declared.verdict.FetchVerdict.TheVariants as verdic
 use Rattle.piece_mirror.specs.Answers.{answer_of}
 use Rattle.piece_mirror.specs.Mirrors.{first_with}
 use Rattle.printed_lines.specs.Lines.{rejected_line, rejection_line}
-use Rattle.file_commands.specs.OutcomeAnswers.{shallow_told}
-use Rattle.file_commands.specs.AnswerForms.{Answer, says, verdict_answer}
+use Rattle.file_commands.specs.AcceptedAnswers.{shallow_told}
+use Rattle.file_commands.specs.AnswerForms.{Answer, says}
+use Rattle.file_commands.specs.RefusedAnswers.{verdict_answer}
 use Rattle.file_commands.specs.FetchedCalls.{HaltsFor, IsNoFault, ReportsVerdict, TellsVerdict, rejection_of}
 use Rattle.fetched_verdicts.specs.Verdicts.{AreAnswersOf, verdict_over}
 use Rattle.file_commands.specs.FueledRoles.{FueledRole}

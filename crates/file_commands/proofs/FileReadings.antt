@@ -14,7 +14,8 @@ use Rattle.code_check.specs.declared.fault.ObjectFault.TheVariants as object_fau
 use Rattle.printed_lines.specs.declared.refusal.Argument.TheVariants as named
 use Rattle.printed_lines.specs.declared.refusal.InputFault.TheVariants.{TooLong}
 use Rattle.file_commands.specs.FileInputs.{with_file, with_program_bytes}
-use Rattle.file_commands.specs.AnswerForms.{Answer, input_refused}
+use Rattle.file_commands.specs.AnswerForms.{Answer}
+use Rattle.file_commands.specs.RefusedAnswers.{input_refused}
 use Rattle.file_commands.specs.FilePrograms.{begins_as_object, constructor_names_of_file, constructor_names_of_object, constructors_of_acceptance, longest_program, max_program, of_acceptance, program_of_file, program_of_object}
 use Rattle.file_commands.specs.Halting.{HaltsAs}
 use Rattle.file_commands.specs.ReadPrograms.{ReadsProgram, of_object_fault}

@@ -12,7 +12,8 @@ use Rattle.printed_lines.specs.declared.refusal.InputFault.{InputFault}
 use Rattle.printed_lines.specs.declared.refusal.InputFault.TheVariants.{RoleKind, TooLong}
 use Rattle.file_commands.specs.Answer.{call_audit_answer, command_answer, proof_answer}
 use Rattle.file_commands.specs.FileInputs.{max_file, with_bytes, with_file, with_fuel, with_image, with_image_file, with_program_file, with_literal, with_number, with_object_or_text, with_program, with_root}
-use Rattle.file_commands.specs.AnswerForms.{Answer, input_refused}
+use Rattle.file_commands.specs.AnswerForms.{Answer}
+use Rattle.file_commands.specs.RefusedAnswers.{input_refused}
 use Rattle.file_commands.specs.Answer.{with_kept}
 use Rattle.file_commands.specs.RoleInputs.{with_fueled_role, with_ideal_call, with_passed, with_role_at}
 use Rattle.file_commands.specs.AuditedCalls.{CallsAudit}

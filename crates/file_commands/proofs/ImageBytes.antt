@@ -5,7 +5,8 @@ use Rattle.images.specs.Images.{Image, Root, Refused as BadBytes, image_of}
 use Rattle.printed_lines.specs.declared.refusal.InputFault.TheVariants.{Image as BadImage}
 use Rattle.printed_lines.specs.declared.refusal.Refusal.TheVariants as refusal
 use Rattle.file_commands.specs.FileInputs.{image_kind, image_read, with_image, with_root}
-use Rattle.file_commands.specs.AnswerForms.{Answer, input_refused}
+use Rattle.file_commands.specs.AnswerForms.{Answer}
+use Rattle.file_commands.specs.RefusedAnswers.{input_refused}
 use Rattle.file_commands.specs.FueledRoles.{DigestedProgram}
 use Rattle.file_commands.specs.Halting.{StepGivesFor, HaltsAs, InHand}
 use Rattle.file_commands.specs.declared.report.Halt.{Halt}

@@ -18,16 +18,16 @@ use Rattle.core_terms.specs.declared.byte_string.ByteString.{ByteString as Spell
 use Rattle.core_terms.proofs.LawProofs.{size_is_length}
 use Rattle.ideal_meaning.specs.Checked as checked
 use Rattle.ideal_meaning.specs.Ideal as ideal
-use Rattle.printed_lines.specs.Lines.{named_done_line}
+use Rattle.printed_lines.specs.OutcomeLines.{named_done_line}
 use Rattle.verifier_mode.specs.Verdicts.{AnswersVerdict, TellsSomeOutcome, VerdictCause}
 use Rattle.ideal_meaning.specs.SpelledOutcomes.{SpellsOutcome}
 use Rattle.verifier_mode.specs.declared.verdict.Verdict.{Verdict}
 use Rattle.verifier_mode.specs.declared.verdict.Verdict.TheVariants as verdict
 use Rattle.shallow_codec.specs.ProgramTypes.{table, ty_of}
 use Rattle.core_terms.proofs.CodePrograms.{is_format}
-use Rattle.file_commands.specs.Answer.{accepted_answer, callee_of, spelling_stored}
-use Rattle.file_commands.specs.OutcomeAnswers.{shallow_told}
-use Rattle.file_commands.specs.AnswerForms.{Answer, says, verdict_answer}
+use Rattle.file_commands.specs.AcceptedAnswers.{accepted_answer, callee_of, spelling_stored, shallow_told}
+use Rattle.file_commands.specs.AnswerForms.{Answer, says}
+use Rattle.file_commands.specs.RefusedAnswers.{verdict_answer}
 use Rattle.file_commands.specs.FueledRoles.{FueledRole}
 use Rattle.file_commands.specs.Halting.{JudgementCause, ending_status}
 use Rattle.file_commands.specs.VerdictHalts.{of_verdict}

@@ -10,7 +10,8 @@ use Rattle.printed_lines.specs.declared.refusal.InputFault.TheVariants.{Mirror a
 use Rattle.printed_lines.specs.declared.refusal.Refusal.TheVariants as refusal
 use Rattle.file_commands.specs.Answer.{mirror_kind, mirror_read, pieces_answer, pieces_file, with_mirror, with_pieces}
 use Rattle.file_commands.specs.FileInputs.{max_file}
-use Rattle.file_commands.specs.AnswerForms.{Answer, input_refused}
+use Rattle.file_commands.specs.AnswerForms.{Answer}
+use Rattle.file_commands.specs.RefusedAnswers.{input_refused}
 use Rattle.file_commands.specs.Halting.{StepGives, InHand, of_mirror_fault}
 use Rattle.file_commands.specs.Storing.{FindsOutput}
 use Rattle.file_commands.specs.declared.report.Ending.TheVariants.{Done}

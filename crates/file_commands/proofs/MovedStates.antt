@@ -22,7 +22,8 @@ use Rattle.printed_lines.specs.declared.refusal.Refusal.TheVariants as refusal
 use Rattle.printed_types.specs.Laws.{EqualTextsAreEqualTables}
 use Rattle.file_commands.specs.Answer.{migrated_answer, migration_fault, moved_answer, with_migration, with_no_fault}
 use Rattle.file_commands.specs.FileInputs.{image_kind, image_read, max_file, with_declared_file, with_image, with_image_bytes, with_image_file, with_root}
-use Rattle.file_commands.specs.AnswerForms.{Answer, input_refused}
+use Rattle.file_commands.specs.AnswerForms.{Answer}
+use Rattle.file_commands.specs.RefusedAnswers.{input_refused}
 use Rattle.file_commands.specs.FueledRoles.{DeclaredProgram, DigestedProgram}
 use Rattle.file_commands.specs.Halting.{StepGivesFor, InHand}
 use Rattle.file_commands.specs.MovedStates.{KeepsStates}

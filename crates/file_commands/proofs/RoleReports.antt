@@ -14,7 +14,7 @@ use Rattle.core_terms.specs.declared.program.Program.{Program}
 use Rattle.core_terms.proofs.CodePrograms.{is_format}
 use Rattle.ideal_meaning.proofs.Projections.{length_piece}
 use Rattle.ideal_meaning.specs.Ideal.{Done}
-use Rattle.printed_lines.specs.Lines.{named_done_line}
+use Rattle.printed_lines.specs.OutcomeLines.{named_done_line}
 use Rattle.value_store.specs.Nodes.{AreSound, Node, greatest_limit}
 use Rattle.value_store.specs.Standing.{StandsFor}
 use Rattle.value_store.proofs.StandingNodes.{within_stands}

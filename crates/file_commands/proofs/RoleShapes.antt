@@ -17,7 +17,8 @@ use Rattle.core_terms.specs.declared.program.Program.{Program}
 use Rattle.core_terms.specs.declared.roles.Role.{Role}
 use Rattle.printed_lines.specs.declared.refusal.InputFault.TheVariants.{RoleKind, RoleUnknown}
 use Rattle.file_commands.specs.RoleInputs.{with_role, with_role_at}
-use Rattle.file_commands.specs.AnswerForms.{Answer, input_refused}
+use Rattle.file_commands.specs.AnswerForms.{Answer}
+use Rattle.file_commands.specs.RefusedAnswers.{input_refused}
 use Rattle.file_commands.specs.RoleCalls.{is_called, type_passed}
 use Rattle.file_commands.specs.RolesCalled.{CallsOnStates, IsCalled, MakesStates, role_of}
 use Rattle.file_commands.specs.declared.roles.CalledRole.{CalledRole}

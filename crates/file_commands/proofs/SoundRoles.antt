@@ -23,7 +23,8 @@ use Rattle.ideal_meaning.specs.PieceForms.{IsOfWhole}
 use Rattle.ideal_meaning.proofs.Headline.{headline}
 use Rattle.ideal_meaning.proofs.RoleCalls.{parameters_are, result_is}
 use Rattle.piece_mirror.specs.Answers.{given_by}
-use Rattle.file_commands.specs.Answer.{callee_of, fetched_verdict}
+use Rattle.file_commands.specs.Answer.{fetched_verdict}
+use Rattle.file_commands.specs.AcceptedAnswers.{callee_of}
 use Rattle.file_commands.specs.RoleInputs.{role_verdict}
 use Rattle.fetched_verdicts.specs.Verdicts.{AreAnswersOf}
 use Rattle.file_commands.specs.FueledRoles.{FueledRole}

@@ -19,7 +19,8 @@ use Rattle.shallow_codec.specs.ProgramTypes.{ty_of}
 use Rattle.shallow_codec.specs.Unspelled.{IsRead}
 use Rattle.shallow_codec.specs.declared.fault.UnspellFault.TheVariants.{Bad}
 use Rattle.file_commands.specs.FileInputs.{state_read, with_literal, with_state, with_state_read}
-use Rattle.file_commands.specs.AnswerForms.{Answer, input_refused}
+use Rattle.file_commands.specs.AnswerForms.{Answer}
+use Rattle.file_commands.specs.RefusedAnswers.{input_refused}
 use Rattle.file_commands.specs.Halting.{StepGives, InHand, of_literal_fault}
 use Rattle.file_commands.specs.ReadPrograms.{named_of}
 use Rattle.file_commands.specs.RoleCalls.{named_literal}

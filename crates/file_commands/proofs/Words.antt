@@ -7,7 +7,8 @@ use Rattle.command_words.specs.declared.command.Command.{Command}
 use Rattle.command_words.specs.declared.command.Command.TheVariants.{Check, Init, Ideal, Step, Shallow, Migrate, Prove, Verify, Audit, Library, Gen, Serve, Ask, Pieces, Fetch, Mirror, Draw, Found, Host, Replay, Emit}
 use Rattle.file_commands.specs.Answer.{answer_with, judged_answer}
 use Rattle.lam_outside.specs.Told.{Contents, Names}
-use Rattle.file_commands.specs.Ending.{EndsAs, EndsOnSink, Outside, with_sink}
+use Rattle.file_commands.specs.Ending.{EndsAs, EndsOnSink, with_sink}
+use Rattle.file_commands.specs.Outsides.{Outside}
 use Rattle.file_commands.specs.Reaching.{IsReached}
 use Rattle.file_commands.specs.declared.status.Status.{Status}
 

@@ -16,7 +16,8 @@ use Rattle.printed_lines.specs.declared.refusal.InputFault.TheVariants.{ObjectFo
 use Rattle.sha2.specs.Sha256.{sha256}
 use Rattle.file_commands.specs.Answer.{object_answer, object_written, stored_object, with_listed}
 use Rattle.file_commands.specs.FileInputs.{with_program, with_text}
-use Rattle.file_commands.specs.AnswerForms.{Answer, input_refused}
+use Rattle.file_commands.specs.AnswerForms.{Answer}
+use Rattle.file_commands.specs.RefusedAnswers.{input_refused}
 use Rattle.file_commands.specs.FilePrograms.{begins_as_object}
 use Rattle.file_commands.specs.FueledRoles.{ListedProgram}
 use Rattle.file_commands.specs.Halting.{InHand, ending_status, of_write_fault}

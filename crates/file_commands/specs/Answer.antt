@@ -1,16 +1,14 @@
--- What a run answers: its status, the lines that it writes and the files that it stores.
+-- What each command answers, by its words and the files.
 use Rattle.std.specs.Prelude.{ℕ, List, [], ◌∷◌, ◌++◌, length, map, ◌&&◌, not, bytes_eq, nat_le, Option, Some, None, if◌then◌else◌}
 use Rattle.sha2.specs.Sha256.{sha256}
 use Rattle.command_words.specs.Invocations.{Invocation, invocation_of}
 use Rattle.command_words.specs.declared.command.Command.{Command}
 use Rattle.command_words.specs.declared.command.Command.TheVariants.{Check, Init, Ideal, Step, Shallow, Migrate, Prove, Verify, Audit, Library, Gen, Serve, Ask, Pieces, Fetch, Mirror, Draw, Found, Host, Replay, Emit}
-use Rattle.lam_outside.specs.Told.{Contents, Stores}
+use Rattle.lam_outside.specs.Told.{Contents}
 use Rattle.core_terms.specs.Types.{same_type}
 use Rattle.core_terms.specs.Values.{Value}
 use Rattle.core_terms.specs.Terms.{Update, Program}
 use Rattle.core_terms.specs.Roles.{argument_type}
-use Rattle.core_terms.specs.Spelling.{spelling}
-use Rattle.ideal_meaning.specs.Ideal as ideal
 use Rattle.ideal_meaning.specs.Checked as checked
 use Rattle.object_meaning.specs.WrittenObjects.{written}
 use Rattle.piece_mirror.specs.Answers.{given_by}
@@ -33,17 +31,18 @@ use Rattle.fetched_verdicts.specs.Verdicts.{verdict_over}
 use Rattle.file_commands.specs.FilePrograms.{begins_as_object}
 use Rattle.file_commands.specs.FueledRoles.{DeclaredProgram, DigestedProgram, FueledRole, ListedProgram, NamedProgram}
 use Rattle.file_commands.specs.IdealCalls.{IdealCall, call_audit, call_proof, call_proof_line, projected_outcome}
-use Rattle.file_commands.specs.RoleCalls.{kind_called, program_called, state_made}
+use Rattle.file_commands.specs.RoleCalls.{program_called}
 use Rattle.file_commands.specs.TextPrograms.{constructors_of_text}
-use Rattle.file_commands.specs.declared.roles.Callee.{Callee}
 use Rattle.file_commands.specs.declared.roles.Callee.TheVariants as callee
 use Rattle.file_commands.specs.declared.status.Status.TheVariants.{Done, Collision}
-use Rattle.file_commands.specs.AnswerForms.{Answer, input_refused, says, usage_answer, verdict_answer}
+use Rattle.file_commands.specs.AnswerForms.{Answer, says}
+use Rattle.file_commands.specs.RefusedAnswers.{input_refused, usage_answer, verdict_answer}
 use Rattle.file_commands.specs.FileInputs.{max_file, with_bytes, with_declared_file, with_file, with_image_bytes, with_image_file, with_number, with_program_bytes, with_program_file, with_state_file, with_text}
 use Rattle.file_commands.specs.RoleInputs.{RoleCall, role_verdict, with_ended_call, with_ended_init, with_fueled_role, with_ideal_call, with_role_call}
-use Rattle.file_commands.specs.OutcomeAnswers.{projected_line, role_answer, shallow_told, state_answer, storing, storing_answer}
-pub use Rattle.file_commands.specs.FilePrograms.{max_program}
+use Rattle.file_commands.specs.OutcomeAnswers.{projected_line, role_answer, state_answer, storing, storing_answer}
+use Rattle.file_commands.specs.AcceptedAnswers.{shallow_told, accepted_answer, callee_of}
 use Rattle.file_commands.specs.WorkloadAnswers.{generated_answer, library_answer}
+pub use Rattle.file_commands.specs.FilePrograms.{max_program}
 
 -- `check P`: the digest of the program's bytes
 abbrev pub checked_answer : List ℕ → Contents → Option Answer
@@ -149,20 +148,6 @@ abbrev pub stepped_answer : (program role image argument fuel out : List ℕ) �
 stepped_answer program role image argument fuel out files =
     with_program_file (files program) (λ p.
     with_ended_call callee.Update p role image argument fuel files (λ ended. Some (storing_answer ended out)))
-
--- which roles `verify` calls: updates alone, where a name is given for the new state
-abbrev pub callee_of : Option (List ℕ) → Callee
-callee_of None = callee.OfState
-callee_of (Some out) = callee.Update
-
--- what is stored of an outcome in projection: the spelling of the new state, where a name is given for it
-abbrev pub spelling_stored : FueledRole → Option (List ℕ) → ideal.Outcome → Stores
-spelling_stored r (Some name) (ideal.Done v) = (name, spelling (state_made (kind_called r) v)) ∷ []
-spelling_stored r out o = []
-
--- what is answered for an outcome that is accepted
-abbrev pub accepted_answer : FueledRole → Option (List ℕ) → ideal.Outcome → Answer
-accepted_answer r out o = record (shallow_told r o) { stored = spelling_stored r out o }
 
 -- what is answered for a proof of a call
 abbrev pub verified_answer : Option (List ℕ) → RoleCall → List ℕ → Answer

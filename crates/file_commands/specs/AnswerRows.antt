@@ -48,12 +48,14 @@ use Rattle.value_store.specs.Nodes.{Node}
 use Rattle.value_store.specs.Standing.{ProverNodes, StandsFor}
 use Rattle.value_store.specs.Stores.{nodes_in, store_lent}
 use Rattle.value_store.specs.declared.node.Ref.{Ref}
-use Rattle.file_commands.specs.Answer.{Drawing, Founding, Mirroring, answer_with, audited_answer, called_answer, callee_of, checked_answer, command_answer, fetched_answer, emitted_answer, filed_answer, first_shared, ideal_answer, initial_answer, judged_answer, max_program, migrated_answer, migration_fault, object_answer, object_written, proved_answer, spelled_answer, spelling_stored, stepped_answer, stored_object, unasked_answer, undrawn_answer, unfounded_answer, unhosted_answer, unmirrored_answer, unreplayed_answer, unserved_answer, with_drawing, with_drawn, with_founding, with_listed, with_mirror_file, with_mirroring, with_no_fault}
+use Rattle.file_commands.specs.Answer.{Drawing, Founding, Mirroring, answer_with, audited_answer, called_answer, checked_answer, command_answer, fetched_answer, emitted_answer, filed_answer, first_shared, ideal_answer, initial_answer, judged_answer, max_program, migrated_answer, migration_fault, object_answer, object_written, proved_answer, spelled_answer, stepped_answer, stored_object, unasked_answer, undrawn_answer, unfounded_answer, unhosted_answer, unmirrored_answer, unreplayed_answer, unserved_answer, with_drawing, with_drawn, with_founding, with_listed, with_mirror_file, with_mirroring, with_no_fault}
+use Rattle.file_commands.specs.AcceptedAnswers.{callee_of, spelling_stored, shallow_told}
 use Rattle.file_commands.specs.WorkloadAnswers.{first_argument, first_role, generated_answer, is_entry, is_get, is_key, is_put, keys_of, library_answer, with_first, with_source}
-use Rattle.file_commands.specs.OutcomeAnswers.{shallow_told, state_image, storing}
+use Rattle.file_commands.specs.OutcomeAnswers.{state_image, storing}
 use Rattle.file_commands.specs.RoleInputs.{with_ended_init, with_fueled_role, with_role_at, with_role_call}
 use Rattle.file_commands.specs.FileInputs.{max_file, with_file, with_image, with_image_bytes, with_number, with_program_bytes, with_program_file, with_state_read, with_text}
-use Rattle.file_commands.specs.AnswerForms.{Answer, input_refused, refusal_status, usage_answer, verdict_answer}
+use Rattle.file_commands.specs.AnswerForms.{Answer}
+use Rattle.file_commands.specs.RefusedAnswers.{input_refused, refusal_status, usage_answer, verdict_answer}
 use Rattle.file_commands.specs.CallsInStores.{HoldsCall, HoldsSome}
 use Rattle.file_commands.specs.FilePrograms.{begins_as_object, longest_program}
 use Rattle.file_commands.specs.FueledRoles.{DeclaredProgram, DigestedProgram, FueledRole, ListedProgram, NamedProgram}

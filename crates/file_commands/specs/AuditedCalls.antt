@@ -12,9 +12,9 @@ use Rattle.printed_lines.specs.Lines.{collision_line, rejected_line}
 use Rattle.collision_audit.specs.AuditAnswers.{HasNoSplit}
 use Rattle.collision_audit.specs.Splits.{Split, IsSplit, offered_in}
 use Rattle.file_commands.specs.Answer.{agreeing}
-use Rattle.file_commands.specs.OutcomeAnswers.{shallow_told}
+use Rattle.file_commands.specs.AcceptedAnswers.{shallow_told}
 use Rattle.file_commands.specs.RoleInputs.{role_verdict}
-use Rattle.file_commands.specs.Ending.{Outside}
+use Rattle.file_commands.specs.Outsides.{Outside}
 use Rattle.file_commands.specs.IdealCalls.{IdealCall, call_pieces, called_program, projected_outcome, values_called}
 use Rattle.file_commands.specs.NamedCalls.{NamesInputs, NamesRole}
 use Rattle.file_commands.specs.ProvedCalls.{client_call}

@@ -18,12 +18,12 @@ use Rattle.lam_outside.specs.Told.{AddsStores, Contents}
 use Rattle.number_words.specs.Numbers.{number_within}
 use Rattle.printed_lines.specs.Lines.{collision_line, rejected_line}
 use Rattle.workloads.specs.declared.workload.Workload.{Workload}
-use Rattle.file_commands.specs.Answer.{accepted_answer, agreeing, callee_of, judged_answer}
-use Rattle.file_commands.specs.OutcomeAnswers.{shallow_told}
+use Rattle.file_commands.specs.Answer.{agreeing, judged_answer}
+use Rattle.file_commands.specs.AcceptedAnswers.{accepted_answer, callee_of, shallow_told}
 use Rattle.file_commands.specs.RoleInputs.{role_verdict}
 use Rattle.file_commands.specs.AnswerForms.{Answer}
 use Rattle.file_commands.specs.AuditedCalls.{AgreesOnOutcome, AuditSays, CallsAudit, IsAudited, RejectsProof, ShowsCollision, SplitsAt, SplitsNowhere, TellsAnAudit}
-use Rattle.file_commands.specs.Ending.{Outside}
+use Rattle.file_commands.specs.Outsides.{Outside}
 use Rattle.file_commands.specs.GeneratedCalls.{AreCalled}
 use Rattle.file_commands.specs.IdealCalls.{IdealCall, call_pieces, call_proof, call_proof_line, called_program, is_new, is_used, projected_outcome, values_called}
 use Rattle.file_commands.specs.NamedCalls.{NamesInputs, NamesRole}

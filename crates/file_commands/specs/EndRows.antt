@@ -9,7 +9,8 @@ use Rattle.lam_outside.specs.Causes.{Rose}
 use Rattle.lam_outside.specs.Told.{AddsStores, Contents, Stores}
 use Rattle.file_commands.specs.AnswerForms.{Answer}
 use Rattle.file_commands.specs.Codes.{code}
-use Rattle.file_commands.specs.Ending.{EndsAnswered, EndsAs, EndsInNoMemory, EndsInReadFault, EndsInWriteFault, EndsOnSink, FailsToStore, FailsToWrite, IsOfFault, IsOfRefused, IsToldAs, IsToldByCode, MayWrite, NoneRose, Outside, StoresSome, WritesPart, lines_of, no_memory_text, with_sink}
+use Rattle.file_commands.specs.Ending.{EndsAnswered, EndsAs, EndsInNoMemory, EndsInReadFault, EndsInWriteFault, EndsOnSink, FailsToStore, FailsToWrite, IsOfFault, IsOfRefused, IsToldAs, IsToldByCode, MayWrite, NoneRose, StoresSome, WritesPart, lines_of, no_memory_text, with_sink}
+use Rattle.file_commands.specs.Outsides.{Outside}
 use Rattle.file_commands.specs.Halting.{HaltsAs, ending_status}
 use Rattle.file_commands.specs.Storing.{FindsOutput, IsOutput, StoresAndTells, stored_as}
 use Rattle.file_commands.specs.Telling.{Tells, TellsText}

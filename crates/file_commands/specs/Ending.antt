@@ -9,25 +9,7 @@ use Rattle.file_commands.specs.AnswerForms.{Answer}
 use Rattle.file_commands.specs.Codes.{code}
 use Rattle.file_commands.specs.declared.status.Status.{Status}
 use Rattle.file_commands.specs.declared.status.Status.TheVariants.{Usage, ReadFault, WriteFault, NoMemory}
-
--- what files and a sink tell, and their counts of faults
-pub record Outside : Type 0 where
-  pub contents : Option Contents
-  pub stores : Option Stores
-  pub written : Option (List ℕ)
-  pub read_faults : ℕ
-  pub store_faults : ℕ
-  pub write_faults : ℕ
-
-abbrev pub outside : {F O : Type 0} → (F → Option Contents) → (F → Option Stores) → (F → ℕ) → (F → ℕ) → (O → Option (List ℕ)) → (O → ℕ) → F → O → Outside
-outside contents stores read_faults store_faults written write_faults files out = record {
-  contents = contents files;
-  stores = stores files;
-  written = written out;
-  read_faults = read_faults files;
-  store_faults = store_faults files;
-  write_faults = write_faults out;
-}
+use Rattle.file_commands.specs.Outsides.{Outside}
 
 -- the lines of the answer, where there is one
 abbrev pub lines_of : Option Answer → List (List ℕ)

@@ -15,7 +15,8 @@ use Rattle.piece_fetch.specs.declared.verdict.FetchVerdict.TheVariants as judged
 use Rattle.piece_mirror.specs.Answers.{answer_of}
 use Rattle.piece_mirror.specs.Mirrors.{first_with}
 use Rattle.file_commands.specs.Answer.{mirror_read, pieces_answer, pieces_file, with_mirror, with_mirror_file}
-use Rattle.file_commands.specs.AnswerForms.{Answer, says, verdict_answer}
+use Rattle.file_commands.specs.AnswerForms.{Answer, says}
+use Rattle.file_commands.specs.RefusedAnswers.{verdict_answer}
 use Rattle.fetched_verdicts.specs.Verdicts.{verdict_over}
 use Rattle.file_commands.specs.FetchedCalls.{HaltsFor, IsNoFault, ReportsVerdict}
 use Rattle.file_commands.specs.FueledRoles.{FueledRole}

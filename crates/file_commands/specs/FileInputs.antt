@@ -16,7 +16,8 @@ use Rattle.file_commands.specs.Arguments.{fuel_of}
 use Rattle.file_commands.specs.FilePrograms.{constructor_names_of_file, longest_program, program_of_file, max_program}
 use Rattle.file_commands.specs.FueledRoles.{DeclaredProgram, DigestedProgram, NamedProgram}
 use Rattle.file_commands.specs.TextPrograms.{FileProgram, IsProgram, IsRefused, constructor_names_of_text, program_of_text, types_text_of_text}
-use Rattle.file_commands.specs.AnswerForms.{Answer, input_refused, refused}
+use Rattle.file_commands.specs.AnswerForms.{Answer}
+use Rattle.file_commands.specs.RefusedAnswers.{input_refused, refused}
 
 -- the longest file that is no program
 abbrev pub max_file : ℕ

@@ -16,8 +16,9 @@ use Rattle.printed_syntax.specs.declared.fault.LiteralKind.TheVariants.{Mismatch
 use Rattle.prover_mode.specs.declared.proving.Proved.{Proved}
 use Rattle.verifier_mode.specs.declared.verdict.Verdict.TheVariants as verdict
 use Rattle.file_commands.specs.Answer.{agreeing}
-use Rattle.file_commands.specs.OutcomeAnswers.{shallow_told}
-use Rattle.file_commands.specs.AnswerForms.{Answer, refusal_status, says}
+use Rattle.file_commands.specs.AcceptedAnswers.{shallow_told}
+use Rattle.file_commands.specs.AnswerForms.{Answer, says}
+use Rattle.file_commands.specs.RefusedAnswers.{refusal_status}
 use Rattle.file_commands.specs.Arguments.{fuel_of, most_links, most_port, most_rounds, most_seed, most_slice, positive, positive_within}
 use Rattle.file_commands.specs.FueledRoles.{FueledRole}
 use Rattle.file_commands.specs.Halting.{Finds, FindsLines, Found, StepGives, StepGivesFor, HaltCause, HaltsAs, InHand, JudgementCause, MayHalt, MayHaltJudging, TellsLines, WithoutFiles, ending_status, halt_line}

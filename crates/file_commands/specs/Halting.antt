@@ -22,7 +22,8 @@ use Rattle.piece_mirror.specs.declared.fault.MirrorFault.{MirrorFault}
 use Rattle.piece_mirror.specs.declared.fault.MirrorFault.TheVariants as mirror_fault
 use Rattle.collision_audit.specs.declared.audited.AuditFault.{AuditFault}
 use Rattle.collision_audit.specs.declared.audited.AuditFault.TheVariants as audit_fault
-use Rattle.file_commands.specs.AnswerForms.{Answer, says, refusal_status}
+use Rattle.file_commands.specs.AnswerForms.{Answer, says}
+use Rattle.file_commands.specs.RefusedAnswers.{refusal_status}
 use Rattle.file_commands.specs.declared.programs.ProgramFault.{ProgramFault}
 use Rattle.file_commands.specs.declared.programs.ProgramFault.TheVariants as program_fault
 use Rattle.file_commands.specs.declared.report.Ending.{Ending}

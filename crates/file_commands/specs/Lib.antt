@@ -44,3 +44,7 @@ pub mod FileInputs
 pub mod RoleInputs
 pub mod OutcomeAnswers
 pub mod WorkloadAnswers
+pub mod AcceptedAnswers
+pub mod NamedPrograms
+pub mod Outsides
+pub mod RefusedAnswers

@@ -19,12 +19,12 @@ use Rattle.ideal_meaning.specs.Ideal.{Outcome}
 use Rattle.lam_outside.specs.Told.{AddsStores, Contents}
 use Rattle.printed_syntax.specs.Literals.{IsValue}
 use Rattle.sha2.specs.Sha256.{sha256}
-use Rattle.file_commands.specs.Answer.{accepted_answer, callee_of}
+use Rattle.file_commands.specs.AcceptedAnswers.{accepted_answer, callee_of}
 use Rattle.file_commands.specs.Arguments.{fuel_of}
-use Rattle.file_commands.specs.Ending.{Outside}
+use Rattle.file_commands.specs.Outsides.{Outside}
 use Rattle.file_commands.specs.FilePrograms.{longest_program, program_of_file, IsOfTextOrObject}
 use Rattle.file_commands.specs.FueledRoles.{FueledRole}
-use Rattle.file_commands.specs.NamedCalls.{named_program}
+use Rattle.file_commands.specs.NamedPrograms.{named_program}
 use Rattle.file_commands.specs.RoleCalls.{is_called, kind_called, passed_literal, program_called, result_called}
 use Rattle.file_commands.specs.SoundPrograms.{GivesSound, IsOfDeclared, IsOneOfTwo, IsOutcome, IsSound}
 use Rattle.file_commands.specs.TextPrograms.{FileProgram, IsProgram, program_of_text, types_text_of_text}

@@ -1,24 +1,19 @@
 -- What the words of a command line name: a role, and a call of it on an ideal state.
 use Rattle.std.specs.Prelude.{◌≡◌, ◌≤◌, ℕ, List, true, length, Option, Some}
-use Rattle.sha2.specs.Sha256.{sha256}
 use Rattle.lam_outside.specs.Told.{Contents}
 use Rattle.core_terms.specs.Roles.{role_named}
-use Rattle.core_terms.specs.Terms.{Program}
 use Rattle.core_terms.specs.Values.{Value}
 use Rattle.printed_syntax.specs.Literals.{IsValue}
 use Rattle.images.specs.Images.{Root}
 use Rattle.file_commands.specs.FileInputs.{image_read, max_file}
 use Rattle.file_commands.specs.Arguments.{fuel_of}
-use Rattle.file_commands.specs.FilePrograms.{constructor_names_of_file, longest_program, program_of_file}
+use Rattle.file_commands.specs.FilePrograms.{longest_program, program_of_file}
 use Rattle.file_commands.specs.FueledRoles.{DigestedProgram, FueledRole, NamedProgram}
 use Rattle.file_commands.specs.IdealCalls.{IdealCall}
 use Rattle.file_commands.specs.RoleCalls.{is_called, kind_called, passed_literal, program_called}
 use Rattle.file_commands.specs.TextPrograms.{IsProgram}
 use Rattle.file_commands.specs.declared.roles.Callee.{Callee}
-
--- a program with the digest of its bytes and the names of its constructors
-abbrev pub named_program : List ℕ → Program → NamedProgram
-named_program bytes P = record { digested = record { program = P; digest = sha256 bytes }; names = constructor_names_of_file bytes }
+use Rattle.file_commands.specs.NamedPrograms.{named_program}
 
 -- a file with this program, as a text or as an object
 pub record KeepsProgram (file : Option (List ℕ)) (p : NamedProgram) : Type 0 where

@@ -7,14 +7,16 @@ use Rattle.core_terms.specs.Spelling.{spelling}
 use Rattle.core_terms.specs.Projection.{projection}
 use Rattle.ideal_meaning.specs.Ideal as ideal
 use Rattle.images.specs.SavedImages.{saved_image}
-use Rattle.printed_lines.specs.Lines.{named_done_line, out_line, state_line, trap_line}
+use Rattle.printed_lines.specs.Lines.{state_line}
 use Rattle.printed_lines.specs.declared.refusal.Argument.TheVariants as named
 use Rattle.printed_lines.specs.declared.refusal.InputFault.TheVariants.{TooLong}
 use Rattle.file_commands.specs.FueledRoles.{DigestedProgram, FueledRole, NamedProgram}
-use Rattle.file_commands.specs.RoleCalls.{EndedRole, kind_called, program_called, projection_called, result_called, state_made}
-use Rattle.file_commands.specs.declared.status.Status.TheVariants.{Done, Trap, OutOfFuel}
-use Rattle.file_commands.specs.AnswerForms.{Answer, input_refused, says}
+use Rattle.file_commands.specs.RoleCalls.{EndedRole, kind_called, projection_called, state_made}
+use Rattle.file_commands.specs.declared.status.Status.TheVariants.{Done}
+use Rattle.file_commands.specs.AnswerForms.{Answer}
+use Rattle.file_commands.specs.RefusedAnswers.{input_refused}
 use Rattle.file_commands.specs.FileInputs.{max_file}
+use Rattle.file_commands.specs.AcceptedAnswers.{shallow_told}
 
 -- the projection of an ideal state: a digest stands for what is authenticated
 unfoldable pub state_projection : Program → Value → Value
@@ -28,12 +30,6 @@ projected_line p v = let P = p.digested.program in state_line P.types p.names P.
 abbrev pub state_answer : NamedProgram → Value → List ℕ → Answer
 state_answer p v name =
     record { status = Done; lines = projected_line p v ∷ []; stored = (name, spelling (state_projection p.digested.program v)) ∷ [] }
-
--- what is answered for an outcome in projection: its value, with the names of its constructors
-abbrev pub shallow_told : FueledRole → ideal.Outcome → Answer
-shallow_told r (ideal.Done v) = says Done (named_done_line (program_called r).types r.program.names (result_called r) v)
-shallow_told r (ideal.Trapped trap) = says Trap (trap_line trap)
-shallow_told r ideal.Out = says OutOfFuel out_line
 
 -- what is answered for a role that was called: of a value its projection
 abbrev pub outcome_told : FueledRole → ideal.Outcome → Answer

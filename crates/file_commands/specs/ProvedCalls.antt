@@ -7,11 +7,12 @@ use Rattle.command_words.specs.declared.command.Command.TheVariants.{Prove}
 use Rattle.lam_outside.specs.Told.{Contents, AddsStores}
 use Rattle.core_terms.specs.Spelling.{spelling}
 use Rattle.ideal_meaning.specs.Checked.{Accepted}
-use Rattle.file_commands.specs.Answer.{accepted_answer, callee_of, judged_answer}
-use Rattle.file_commands.specs.OutcomeAnswers.{shallow_told, state_projection}
+use Rattle.file_commands.specs.Answer.{judged_answer}
+use Rattle.file_commands.specs.AcceptedAnswers.{accepted_answer, callee_of, shallow_told}
+use Rattle.file_commands.specs.OutcomeAnswers.{state_projection}
 use Rattle.file_commands.specs.RoleInputs.{RoleCall, role_verdict}
 use Rattle.number_words.specs.Numbers.{number_within}
-use Rattle.file_commands.specs.Ending.{Outside}
+use Rattle.file_commands.specs.Outsides.{Outside}
 use Rattle.file_commands.specs.IdealCalls.{IdealCall, call_proof, call_proof_line, called_program, projected_outcome}
 use Rattle.file_commands.specs.NamedCalls.{NamesInputs, NamesRole}
 use Rattle.file_commands.specs.RoleCalls.{is_called, kind_called}

@@ -7,7 +7,7 @@ use Rattle.printed_lines.specs.Lines.{proof_line}
 use Rattle.prover_mode.specs.declared.proving.Proved.{Proved}
 use Rattle.ideal_meaning.specs.SpelledOutcomes.{SpellsOutcome}
 use Rattle.file_commands.specs.Answer.{agreeing}
-use Rattle.file_commands.specs.OutcomeAnswers.{shallow_told}
+use Rattle.file_commands.specs.AcceptedAnswers.{shallow_told}
 use Rattle.file_commands.specs.AnswerForms.{says}
 use Rattle.file_commands.specs.FueledRoles.{FueledRole}
 use Rattle.file_commands.specs.Halting.{ending_status}

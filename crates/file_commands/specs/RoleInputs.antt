@@ -15,7 +15,8 @@ use Rattle.file_commands.specs.IdealCalls.{IdealCall, ended_call}
 use Rattle.file_commands.specs.RoleCalls.{EndedRole, ended_with, is_called, passed_literal, program_called}
 use Rattle.file_commands.specs.declared.roles.Callee.{Callee}
 use Rattle.file_commands.specs.declared.roles.Callee.TheVariants as callee
-use Rattle.file_commands.specs.AnswerForms.{Answer, input_refused}
+use Rattle.file_commands.specs.AnswerForms.{Answer}
+use Rattle.file_commands.specs.RefusedAnswers.{input_refused}
 use Rattle.file_commands.specs.FileInputs.{with_fuel, with_image_file, with_literal, with_state_file}
 
 -- goes on with the role of this number, where it is one that the command calls

@@ -11,7 +11,7 @@ use Rattle.core_terms.specs.Values.{Value}
 use Rattle.core_terms.specs.declared.program.Program.{Program}
 use Rattle.core_terms.specs.declared.roles.Role.{Role}
 use Rattle.ideal_meaning.specs.Ideal.{Outcome, Done}
-use Rattle.printed_lines.specs.Lines.{named_done_line}
+use Rattle.printed_lines.specs.OutcomeLines.{named_done_line}
 use Rattle.mode_vm.specs.IdealRuns.{IsOutcome}
 use Rattle.value_store.specs.Markings.{HasLimit}
 use Rattle.value_store.specs.Nodes.{Node}

@@ -3,7 +3,7 @@ use Rattle.std.specs.Prelude.{ℕ, List, [], Option, Some, option_map, unwrap_or
 use Rattle.lam_outside.specs.Told.{Contents}
 use Rattle.core_terms.specs.Spelling.{spelling}
 use Rattle.core_terms.specs.declared.program.Program.{Program}
-use Rattle.file_commands.specs.Answer as def
+use Rattle.file_commands.specs.AcceptedAnswers as def
 use Rattle.file_commands.specs.RoleInputs as role_inputs
 use Rattle.file_commands.specs.Answer.{judged_answer, verified_answer}
 use Rattle.file_commands.specs.RoleInputs.{with_fueled_role, with_passed, with_role_call}

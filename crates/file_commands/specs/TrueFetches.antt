@@ -19,13 +19,13 @@ use Rattle.ideal_meaning.specs.Ideal.{Outcome}
 use Rattle.piece_mirror.specs.Files.{Holds}
 use Rattle.piece_mirror.specs.Answers.{given_by}
 use Rattle.file_commands.specs.Answer.{mirror_read}
-use Rattle.file_commands.specs.OutcomeAnswers.{shallow_told}
+use Rattle.file_commands.specs.AcceptedAnswers.{shallow_told}
 use Rattle.file_commands.specs.Arguments.{fuel_of}
-use Rattle.file_commands.specs.Ending.{Outside}
+use Rattle.file_commands.specs.Outsides.{Outside}
 use Rattle.fetched_verdicts.specs.Verdicts.{AreAnswersOf}
 use Rattle.file_commands.specs.FilePrograms.{program_of_file}
 use Rattle.file_commands.specs.FueledRoles.{FueledRole}
-use Rattle.file_commands.specs.NamedCalls.{named_program}
+use Rattle.file_commands.specs.NamedPrograms.{named_program}
 use Rattle.file_commands.specs.RoleCalls.{is_called, kind_called, passed_literal, program_called, result_called}
 use Rattle.file_commands.specs.TextPrograms.{IsProgram}
 use Rattle.file_commands.specs.TrueLines.{TellsOutcome}

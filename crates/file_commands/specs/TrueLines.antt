@@ -14,12 +14,12 @@ use Rattle.printed_syntax.specs.Literals.{IsValue}
 use Rattle.ideal_meaning.specs.Ideal.{Outcome}
 use Rattle.ideal_meaning.specs.Frames.{offered, offered_pieces, header}
 use Rattle.ideal_meaning.specs.Headline.{TrueOrSplit, call_values}
-use Rattle.file_commands.specs.Answer.{accepted_answer, callee_of}
+use Rattle.file_commands.specs.AcceptedAnswers.{accepted_answer, callee_of}
 use Rattle.file_commands.specs.Arguments.{fuel_of}
-use Rattle.file_commands.specs.Ending.{Outside}
+use Rattle.file_commands.specs.Outsides.{Outside}
 use Rattle.file_commands.specs.FilePrograms.{program_of_file}
 use Rattle.file_commands.specs.FueledRoles.{FueledRole}
-use Rattle.file_commands.specs.NamedCalls.{named_program}
+use Rattle.file_commands.specs.NamedPrograms.{named_program}
 use Rattle.file_commands.specs.RoleCalls.{is_called, kind_called, passed_literal, program_called, result_called}
 use Rattle.file_commands.specs.TextPrograms.{IsProgram}
 

@@ -21,7 +21,8 @@ use Rattle.file_commands.specs.FueledRoles.{FueledRole, NamedProgram}
 use Rattle.file_commands.specs.RoleCalls.{EndedRole, kind_called, state_made}
 use Rattle.file_commands.specs.declared.roles.Callee.TheVariants as callee
 use Rattle.file_commands.specs.declared.status.Status.TheVariants.{Done}
-use Rattle.file_commands.specs.AnswerForms.{Answer, input_refused, says}
+use Rattle.file_commands.specs.AnswerForms.{Answer, says}
+use Rattle.file_commands.specs.RefusedAnswers.{input_refused}
 use Rattle.file_commands.specs.FileInputs.{with_number, with_text}
 use Rattle.file_commands.specs.RoleInputs.{with_ended_init, with_role}
 use Rattle.file_commands.specs.OutcomeAnswers.{outcome_told, projected_line}

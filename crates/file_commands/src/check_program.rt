@@ -5,7 +5,8 @@ ghost use Rattle.command_words.specs.Commands.{texts};
 ghost use Rattle.command_words.specs.declared.command.Command.TheVariants.{Check};
 ghost use Rattle.file_commands.specs.Reaching.{FaultsAtReached, ReachedAt};
 ghost use Rattle.file_commands.specs.Answer.{answer_with, checked_answer};
-ghost use Rattle.file_commands.specs.Ending.{EndsAs, outside};
+ghost use Rattle.file_commands.specs.Ending.{EndsAs};
+ghost use Rattle.file_commands.specs.Outsides.{outside};
 ghost use Rattle.file_commands.specs.Halting.{Finds, HaltCause, ending_status};
 ghost use Rattle.file_commands.specs.Statuses.{MayAnswer};
 

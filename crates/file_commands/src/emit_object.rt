@@ -6,7 +6,8 @@ ghost use Rattle.command_words.specs.declared.command.Command.TheVariants.{Emit}
 ghost use Rattle.core_terms.specs.Programs.{meaning};
 ghost use Rattle.core_terms.specs.declared.format.Format.TheVariants.{First};
 ghost use Rattle.file_commands.specs.Answer.{answer_with, emitted_answer, object_answer, stored_object, object_written, with_listed_file};
-ghost use Rattle.file_commands.specs.Ending.{EndsAs, outside};
+ghost use Rattle.file_commands.specs.Ending.{EndsAs};
+ghost use Rattle.file_commands.specs.Outsides.{outside};
 ghost use Rattle.file_commands.specs.Halting.{StepGives, HaltCause, InHand, ending_status};
 ghost use Rattle.file_commands.specs.Reaching.{FaultsAt, FaultsAtReached, ReachedAt};
 ghost use Rattle.file_commands.specs.ReadPrograms.{listed_of};

@@ -6,7 +6,8 @@ ghost use Rattle.command_words.specs.declared.command.Command.TheVariants.{Prove
 ghost use Rattle.code_gen.specs.Programs.{program_in};
 ghost use Rattle.file_commands.specs.Answer.{answer_with, proof_answer, proved_answer};
 ghost use Rattle.file_commands.specs.CallsInStores.{HoldsCall, HoldsSome, proved_behind};
-ghost use Rattle.file_commands.specs.Ending.{EndsAs, outside};
+ghost use Rattle.file_commands.specs.Ending.{EndsAs};
+ghost use Rattle.file_commands.specs.Outsides.{outside};
 ghost use Rattle.file_commands.specs.Halting.{HaltCause, ending_status};
 ghost use Rattle.file_commands.specs.IdealCalls as meant;
 ghost use Rattle.file_commands.specs.Reaching.{FaultsAtReached, ReachedAt};

@@ -6,7 +6,7 @@ ghost use Rattle.printed_lines.specs.declared.refusal.Refusal.TheVariants.{Input
 ghost use Rattle.file_commands.specs.declared.report.Halt.TheVariants.{NoMemory, ReadFault, Refused};
 ghost use Rattle.file_commands.specs.Reaching.{FaultsAt};
 ghost use Rattle.file_commands.specs.FileInputs.{with_file};
-ghost use Rattle.file_commands.specs.AnswerForms.{refusal_status};
+ghost use Rattle.file_commands.specs.RefusedAnswers.{refusal_status};
 ghost use Rattle.file_commands.specs.Halting.{StepGives, HaltCause, ending_status, halt_status, of_audit_fault, of_image_fault, of_literal_fault, of_mirror_fault, of_program_fault, of_save_fault, of_script_fault, of_write_fault};
 ghost use Rattle.file_commands.specs.VerdictHalts.{of_verdict};
 ghost use Rattle.file_commands.specs.Statuses.{MayAnswer, ReadsFiles};

@@ -15,7 +15,8 @@ use Rattle.ideal_meaning.specs.Ideal.{Opened, ideal, outcome, outcome_projection
 use Rattle.ideal_meaning.specs.PieceForms.{as_spelled}
 use Rattle.ideal_meaning.specs.Frames.{Offer, NoMore, Offers, offered, offered_pieces, honest_frames, frame_bytes, proof_file}
 use Rattle.ideal_meaning.specs.Checked.{Taking, Cause, checked, before_all, Verdict, Accepted, with_rest, judge, with_header, with_argument, with_state, on_argument, on_state, verdict_on}
-use Rattle.ideal_meaning.specs.Headline.{call_values, Companion}
+use Rattle.ideal_meaning.specs.Headline.{call_values}
+use Rattle.ideal_meaning.specs.HeadlineLaws.{Companion}
 use Rattle.ideal_meaning.specs.FollowingLaws.{CompanionOfFrames, VerdictIsOnFrames}
 use Rattle.ideal_meaning.specs.Agreement.{AllOpenedFit, honest_so_far, OffersOther, IsRefused}
 use Rattle.ideal_meaning.proofs.FramesBack.{last_left, AllShort, frames_back, header_back, behind_header, offer_of, offers_of}

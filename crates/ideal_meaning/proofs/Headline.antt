@@ -13,7 +13,8 @@ use Rattle.ideal_meaning.specs.PieceForms.{as_spelled}
 use Rattle.ideal_meaning.specs.Frames.{offered, offered_pieces, header}
 use Rattle.ideal_meaning.specs.Checked.{checked, before_all, Accepted, judge, with_header, with_argument, with_state, verdict}
 use Rattle.ideal_meaning.specs.Agreement.{Agreement}
-use Rattle.ideal_meaning.specs.Headline.{call_values, TrueOrSplit, HeadlineOfFrames, Headline}
+use Rattle.ideal_meaning.specs.Headline.{call_values, TrueOrSplit}
+use Rattle.ideal_meaning.specs.HeadlineLaws.{HeadlineOfFrames, Headline}
 use Rattle.ideal_meaning.proofs.FramesBack.{frames_coherent}
 use Rattle.ideal_meaning.proofs.InHand.{IsHeld}
 use Rattle.ideal_meaning.proofs.Opening.{ReadsBack}

@@ -8,7 +8,8 @@ use Rattle.core_terms.specs.Projection.{projection}
 use Rattle.ideal_meaning.specs.Run.{Traps, IsOut, Rejects, Run, Gives, Ends, state_of}
 use Rattle.ideal_meaning.specs.Ideal.{Opened, Outcome, Done, Trapped, Out, outcome, outcome_projection, bytes_of}
 use Rattle.ideal_meaning.specs.Frames.{Offer, NoMore, Offers, offered_pieces}
-use Rattle.ideal_meaning.specs.Checked.{Taking, Cause, Accepted, with_rest, judged, IsSplitAt}
+use Rattle.ideal_meaning.specs.Checked.{Taking, Cause, Accepted, with_rest, judged}
+use Rattle.ideal_meaning.specs.SplitPieces.{IsSplitAt}
 use Rattle.ideal_meaning.specs.PieceForms.{PieceForm}
 use Rattle.ideal_meaning.specs.Agreement.{OffersOtherAs, IsRefusedAs}
 use Rattle.ideal_meaning.specs.HonestPieces.{honest_as, honest_all_as, honest_piece_as}

@@ -12,7 +12,8 @@ use Rattle.core_terms.specs.Projection.{digest_at}
 use Rattle.ideal_meaning.specs.Run.{Overflow}
 use Rattle.ideal_meaning.specs.Ideal.{ideal, outcome, outcome_projection, Done, Trapped, Out, honest_pieces, bytes_of}
 use Rattle.ideal_meaning.specs.Frames.{offered, offered_pieces, proof_file}
-use Rattle.ideal_meaning.specs.Checked.{Short, Cut, BadKind, PieceLong, BadUse, WrongPiece, BadPiece, Header, Leftover, Verdict, BadState, BadArgument, Accepted, Rejected, verdict, IsSplitAt}
+use Rattle.ideal_meaning.specs.Checked.{Short, Cut, BadKind, PieceLong, BadUse, WrongPiece, BadPiece, Header, Leftover, Verdict, BadState, BadArgument, Accepted, Rejected, verdict}
+use Rattle.ideal_meaning.specs.SplitPieces.{IsSplitAt}
 use Rattle.ideal_meaning.specs.Headline.{call_values}
 use Rattle.ideal_meaning.specs.Examples.{toy, unit_program, bool_program, two_bools_program, nested_program, text_program, pair_program}
 

@@ -12,7 +12,8 @@ use Rattle.ideal_meaning.specs.Run.{state_of}
 use Rattle.ideal_meaning.specs.Ideal.{Outcome, outcome, outcome_projection, ideal}
 use Rattle.ideal_meaning.specs.PieceForms.{IsOfWhole}
 use Rattle.ideal_meaning.specs.Frames.{offered_pieces}
-use Rattle.ideal_meaning.specs.Checked.{Accepted, IsSplitAt}
+use Rattle.ideal_meaning.specs.Checked.{Accepted}
+use Rattle.ideal_meaning.specs.SplitPieces.{IsSplitAt}
 use Rattle.ideal_meaning.specs.Agreement.{AllOpenedFit}
 use Rattle.ideal_meaning.specs.Headline.{call_values}
 use Rattle.ideal_meaning.specs.Fetched.{Answered, Got, HoldsAll, IsBroken, IsLack, IsPiece, TrueFromOrSplit, answered, asking, fetched, verdict_from, whole_pieces}

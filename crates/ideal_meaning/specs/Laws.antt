@@ -8,7 +8,7 @@ use Rattle.ideal_meaning.specs.Run.{Mode}
 use Rattle.ideal_meaning.specs.Called.{call_within, call_from}
 use Rattle.ideal_meaning.specs.Ideal.{Piece}
 use Rattle.ideal_meaning.specs.Frames.{frames, offered, offered_pieces, header, proof_file}
-use Rattle.ideal_meaning.specs.Checked.{IsSplitAt}
+use Rattle.ideal_meaning.specs.SplitPieces.{IsSplitAt}
 
 -- Any bound on nested calls that isn't below the fuel gives the same run, in any mode.
 abbrev pub BoundIsEnough : (C W : Type 0) → Type 0

@@ -34,3 +34,5 @@ pub mod RunFrames
 pub mod FetchLaws
 pub mod FollowingLaws
 pub mod HonestPieces
+pub mod SplitPieces
+pub mod HeadlineLaws

@@ -6,7 +6,7 @@ ghost use Rattle.core_terms.specs.Values.{Value};
 ghost use Rattle.ideal_meaning.specs.Run.{Mode};
 ghost use Rattle.ideal_meaning.specs.CodeTypes.{NeverStuck};
 ghost use Rattle.ideal_meaning.specs.CodeAgreement.{CodeAgreement};
-ghost use Rattle.ideal_meaning.specs.Headline.{HeadlineOfFrames, Headline, Companion};
+ghost use Rattle.ideal_meaning.specs.HeadlineLaws.{HeadlineOfFrames, Headline, Companion};
 ghost use Rattle.ideal_meaning.specs.FollowingLaws.{CompanionOfFrames, NewPieceBoundIsEnough, NewPiecesAreReadBack, VerdictIsOnFrames};
 ghost use Rattle.ideal_meaning.specs.Agreement.{Agreement};
 ghost use Rattle.ideal_meaning.specs.FetchLaws.{FetchCompanion, FetchHeadline};

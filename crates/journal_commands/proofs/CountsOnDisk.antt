@@ -7,7 +7,7 @@ use Rattle.lam_outside.specs.Told.{Contents, Names, Stores}
 use Rattle.printed_lines.specs.declared.refusal.Refusal.TheVariants as refusal
 use Rattle.file_commands.specs.Answer.{Founding, answer_with}
 use Rattle.file_commands.specs.AnswerForms.{Answer}
-use Rattle.file_commands.specs.Ending.{Outside}
+use Rattle.file_commands.specs.Outsides.{Outside}
 use Rattle.file_commands.specs.Halting.{MayHalt, ending_status, halt_status}
 use Rattle.file_commands.specs.Reaching.{HaltsAt, IsReached, without}
 use Rattle.file_commands.specs.Storing.{StoresAndTells}

@@ -7,7 +7,8 @@ use Rattle.std.proofs.lemmas.List.{append-nil}
 use Rattle.command_words.specs.Commands.{texts}
 use Rattle.lam_outside.specs.Told.{Contents, Stores}
 use Rattle.file_commands.specs.AnswerForms.{Answer}
-use Rattle.file_commands.specs.Ending.{EndsAs, IsToldAs, Outside, StoresSome}
+use Rattle.file_commands.specs.Ending.{EndsAs, IsToldAs, StoresSome}
+use Rattle.file_commands.specs.Outsides.{Outside}
 use Rattle.file_commands.specs.Halting.{HaltsAs}
 use Rattle.file_commands.specs.Storing.{FindsOutput, StoresAndTells}
 use Rattle.file_commands.specs.Telling.{Tells}

@@ -2,7 +2,7 @@
 use Rattle.std.specs.Prelude.{◌≡◌, ◌⊎◌, ℕ, ◌+◌, List, [], ◌∷◌, Option, Some, None, unwrap_or}
 use Rattle.lam_outside.specs.Disks.{Chooses, Moments, settled}
 use Rattle.lam_outside.specs.Told.{Contents}
-use Rattle.file_commands.specs.Ending.{Outside}
+use Rattle.file_commands.specs.Outsides.{Outside}
 use Rattle.version_journal.specs.Gates.{ForTold}
 use Rattle.version_journal.specs.Synced.{IsSynced}
 

@@ -19,7 +19,7 @@ use Rattle.version_journal.specs.declared.fault.DiskCount.TheVariants.{Reads, Wr
 use Rattle.version_journal.specs.declared.fault.JournalFault.TheVariants as fault
 use Rattle.file_commands.specs.Answer.{Founding}
 use Rattle.file_commands.specs.AnswerForms.{Answer}
-use Rattle.file_commands.specs.Ending.{Outside}
+use Rattle.file_commands.specs.Outsides.{Outside}
 use Rattle.file_commands.specs.FueledRoles.{DigestedProgram}
 use Rattle.file_commands.specs.declared.report.Halt.TheVariants.{Usage, Refused, ReadFault, NoMemory}
 use Rattle.file_commands.specs.declared.status.Status.{Status}

@@ -12,7 +12,8 @@ use Rattle.version_journal.specs.Journals as journals
 use Rattle.file_commands.specs.Answer.{with_founding}
 use Rattle.file_commands.specs.OutcomeAnswers.{storing}
 use Rattle.file_commands.specs.FileInputs.{image_kind, with_program_file}
-use Rattle.file_commands.specs.AnswerForms.{Answer, input_refused, says}
+use Rattle.file_commands.specs.AnswerForms.{Answer, says}
+use Rattle.file_commands.specs.RefusedAnswers.{input_refused}
 use Rattle.file_commands.specs.FueledRoles.{DigestedProgram}
 use Rattle.file_commands.specs.declared.status.Status.TheVariants.{Done}
 

@@ -1,6 +1,7 @@
 -- How `replay` ends.
 use Rattle.std.specs.Prelude.{ℕ, List, [], ◌∷◌}
-use Rattle.file_commands.specs.Ending.{EndsAs, Outside}
+use Rattle.file_commands.specs.Ending.{EndsAs}
+use Rattle.file_commands.specs.Outsides.{Outside}
 use Rattle.file_commands.specs.declared.status.Status.{Status}
 use Rattle.journal_commands.specs.DisksSeen.{DiskSeen, WritesNothing, file_on, with_disk}
 use Rattle.journal_commands.specs.JournalAnswers.{replayed_answer}

@@ -6,7 +6,7 @@ ghost use Rattle.command_words.specs.declared.command.Command.TheVariants.{Found
 ghost use Rattle.code_gen.specs.Programs.{program_in};
 ghost use Rattle.file_commands.specs.Answer.{Founding, answer_with, unfounded_answer};
 ghost use Rattle.file_commands.specs.FileInputs.{max_file};
-ghost use Rattle.file_commands.specs.Ending.{outside};
+ghost use Rattle.file_commands.specs.Outsides.{outside};
 ghost use Rattle.file_commands.specs.ReadPrograms.{digested_of};
 ghost use Rattle.file_commands.specs.Reaching.{IsReached};
 ghost use Rattle.file_commands.specs.Statuses.{MayAnswer};

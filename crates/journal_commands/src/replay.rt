@@ -9,7 +9,7 @@ ghost use Rattle.mode_vm.specs.Meanings.{program_of};
 ghost use Rattle.session_meaning.specs.Server as meant;
 ghost use Rattle.session_turns.specs.Sharing.{Shares};
 ghost use Rattle.file_commands.specs.Answer.{answer_with, unreplayed_answer};
-ghost use Rattle.file_commands.specs.Ending.{outside};
+ghost use Rattle.file_commands.specs.Outsides.{outside};
 ghost use Rattle.file_commands.specs.Halting.{InHand, ending_status};
 ghost use Rattle.file_commands.specs.ReadPrograms.{digested_of};
 ghost use Rattle.file_commands.specs.Reaching.{IsReached};

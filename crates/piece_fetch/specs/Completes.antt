@@ -13,6 +13,7 @@ use Rattle.ideal_meaning.specs.Ideal as ideal
 use Rattle.ideal_meaning.specs.Agreement.{AllOpenedFit}
 use Rattle.ideal_meaning.specs.Frames.{offered_pieces}
 use Rattle.ideal_meaning.specs.Checked as checked
+use Rattle.ideal_meaning.specs.SplitPieces as split_pieces
 use Rattle.ideal_meaning.specs.Fetched.{Got, Answered, HoldsAll, answered, verdict_from, whole_pieces}
 use Rattle.ideal_meaning.specs.FetchLaws.{IsStore}
 use Rattle.ideal_meaning.specs.Headline.{call_values}
@@ -34,7 +35,7 @@ module _ {U : Type 0} (hash : Hash) (May : U → List ℕ → Got → U → Type
 
   -- the pieces answered and the honest ones first differ at a place where both have one digest
   abbrev pub SplitOver : List Got → Type 0
-  SplitOver answers = (i : ℕ) × checked.IsSplitAt (λ t bytes. hash bytes) (offered_pieces (answered answers)) (whole_pieces hash P f (call_values v a) k) i
+  SplitOver answers = (i : ℕ) × split_pieces.IsSplitAt (λ t bytes. hash bytes) (offered_pieces (answered answers)) (whole_pieces hash P f (call_values v a) k) i
 
   abbrev pub HasSplit : Type 0
   HasSplit = (answers : List Got) × Answered hash May old answers (verdict_over answers) new × SplitOver answers

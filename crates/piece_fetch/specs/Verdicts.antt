@@ -12,6 +12,7 @@ use Rattle.core_terms.specs.declared.byte_string.ByteString.{ByteString as Spell
 use Rattle.ideal_meaning.specs.Ideal as ideal
 use Rattle.ideal_meaning.specs.Frames.{offered_pieces}
 use Rattle.ideal_meaning.specs.Checked as checked
+use Rattle.ideal_meaning.specs.SplitPieces as split_pieces
 use Rattle.ideal_meaning.specs.Fetched.{Got, Answered, answered, verdict_from, whole_pieces}
 use Rattle.ideal_meaning.specs.Headline.{call_values}
 use Rattle.ideal_meaning.specs.SpelledOutcomes.{SpellsOutcome}
@@ -54,7 +55,7 @@ Tells (BadPiece place offset) c = c ≡ checked.BadPiece place offset
 abbrev pub FetchedTrueOrSplit : Hash → Program → ℕ → Values → ℕ → List (List ℕ) → ideal.Outcome → Type 0
 FetchedTrueOrSplit hash P f args k pieces o =
     ((pieces ≡ ideal.bytes_of (whole_pieces hash P f args k)) × (o ≡ ideal.outcome_projection hash P (function_at P f).result (ideal.outcome (ideal.ideal P f args k))))
-    ⊎ ((i : ℕ) × checked.IsSplitAt (λ t bytes. hash bytes) pieces (whole_pieces hash P f args k) i)
+    ⊎ ((i : ℕ) × split_pieces.IsSplitAt (λ t bytes. hash bytes) pieces (whole_pieces hash P f args k) i)
 
 -- There are answers that were given one after another, each to the digest then held, and the verdict over them is told. Of an outcome:
 -- whatever ideal state and argument have these spellings in projection, the pieces answered are the honest ones and the outcome is the

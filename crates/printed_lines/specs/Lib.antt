@@ -1,3 +1,4 @@
 pub mod Lines
 pub mod LineRows
 pub mod SessionLines
+pub mod OutcomeLines

@@ -4,7 +4,8 @@ use Rattle.std.specs.Fmt.{digits}
 use Rattle.hex.specs.Hex.{encode_with}
 use Rattle.ideal_meaning.specs.Checked.{Missing, Broken}
 use Rattle.ideal_meaning.specs.Wire.{AtEnd, IsCut, TooLong, BadMessage}
-use Rattle.printed_lines.specs.Lines.{agrees_line, collision_line, out_line, pieces_line, refusal_line, rejected_line}
+use Rattle.printed_lines.specs.Lines.{agrees_line, collision_line, pieces_line, refusal_line, rejected_line}
+use Rattle.printed_lines.specs.OutcomeLines.{out_line}
 use Rattle.printed_lines.specs.declared.refusal.Argument.TheVariants as argument
 use Rattle.printed_lines.specs.declared.refusal.ImageKind.TheVariants.{BadRecord as BadImageRecord}
 use Rattle.printed_lines.specs.declared.refusal.InputFault.TheVariants.{Journal, Migration, Mirror, ObjectFormat, TooLong as LongFile}

@@ -4,12 +4,11 @@ use Rattle.hex.specs.Hex.{encode_lower}
 use Rattle.core_terms.specs.Types.{Ty, Table}
 use Rattle.core_terms.specs.Values.{Value}
 use Rattle.ideal_meaning.specs.Checked.{Cause, Short, Cut, BadKind, PieceLong, BadUse, WrongPiece, BadPiece, Header, Leftover, Missing, Broken}
-use Rattle.ideal_meaning.specs.Run.{Trap, Overflow, DivZero, TooBig, TooDeep, Index}
+use Rattle.ideal_meaning.specs.Run.{TooBig, TooDeep}
 use Rattle.ideal_meaning.specs.Told.{cause_told}
 use Rattle.ideal_meaning.specs.Wire.{Wire}
 use Rattle.ideal_meaning.specs.Wire as wire
 use Rattle.printed_syntax.specs.Literals.{ConstructorNames}
-use Rattle.printed_syntax.specs.PrintedValues.{printed}
 use Rattle.lexemes.specs.declared.fault.LexicalFault.{LexicalFault}
 use Rattle.lexemes.specs.declared.fault.LexicalFault.TheVariants as lexical
 use Rattle.lexemes.specs.declared.fault.SyntaxKind.{SyntaxKind}
@@ -41,6 +40,7 @@ use Rattle.printed_lines.specs.declared.refusal.Refusal.TheVariants as refusal
 use Rattle.printed_lines.specs.declared.refusal.Rejection.{Rejection}
 use Rattle.printed_lines.specs.declared.refusal.Rejection.TheVariants as rejection
 use Rattle.wire_form.specs.Gots.{wire_meant}
+use Rattle.printed_lines.specs.OutcomeLines.{line_of, value_line}
 
 -- a text, and a number, behind a blank
 abbrev pub word : List ℕ → List ℕ
@@ -185,10 +185,6 @@ wrong_piece_text place want found = codes "wrong-piece" ++ (also place ++ (word 
 abbrev pub missing_text : ℕ → List ℕ → List ℕ
 missing_text place want = codes "missing" ++ (also place ++ word want)
 
--- a line of two parts
-abbrev pub line_of : List ℕ → List ℕ → List ℕ
-line_of front text = front ++ text ++ codes "\n"
-
 -- why no message is read
 abbrev pub bad_message_line : (kind offset : ℕ) → List ℕ
 bad_message_line kind offset = line_of (codes "bad message") (also kind ++ also offset)
@@ -242,30 +238,9 @@ refusal_line (refusal.Object kind) = line_of (codes "program refused: ") (object
 refusal_line (refusal.Input fault) = line_of (codes "input refused: ") (input_text fault)
 refusal_line (refusal.Proof why) = rejection_line why
 
--- the lines of outcomes without a value
-abbrev pub trap_name : Trap → List ℕ
-trap_name Overflow = codes "overflow"
-trap_name DivZero = codes "divzero"
-trap_name TooBig = codes "toobig"
-trap_name TooDeep = codes "toodeep"
-trap_name Index = codes "index"
-
-abbrev pub trap_line : Trap → List ℕ
-trap_line trap = codes "trap " ++ trap_name trap ++ codes "\n"
-
-abbrev pub out_line : List ℕ
-out_line = codes "out of fuel\n"
-
 -- the line of `check`, with the digest of a program's text, or of its object
 abbrev pub ok_line : List ℕ → List ℕ
 ok_line digest = line_of (codes "ok ") (encode_lower digest)
-
--- the lines of a value, over the named types of a program and the names of their constructors: of an outcome, and of a state
-abbrev pub value_line : List ℕ → Table → ConstructorNames → Ty → Value → List ℕ
-value_line front types names t v = line_of front (printed types names t v)
-
-abbrev pub named_done_line : Table → ConstructorNames → Ty → Value → List ℕ
-named_done_line types names t v = value_line (codes "done ") types names t v
 
 abbrev pub state_line : Table → ConstructorNames → Ty → Value → List ℕ
 state_line types names t v = value_line (codes "state ") types names t v

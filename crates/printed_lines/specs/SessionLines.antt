@@ -1,6 +1,7 @@
 -- The texts of the lines of a user's script: what is told of a session stands behind its number.
 use Rattle.std.specs.Prelude.{ℕ, List, ◌++◌, codes, decimal}
-use Rattle.printed_lines.specs.Lines.{also, line_of, word}
+use Rattle.printed_lines.specs.Lines.{also, word}
+use Rattle.printed_lines.specs.OutcomeLines.{line_of}
 
 -- the line of a session, behind whose number this line stands
 abbrev pub session_line : ℕ → List ℕ → List ℕ

@@ -8,6 +8,7 @@ ghost use Rattle.core_terms.specs.Values.{IsShallow, Value};
 ghost use Rattle.core_terms.specs.declared.digest.Digest.{Digest};
 ghost use Rattle.ideal_meaning.specs.Told.{trap_told};
 ghost use Rattle.printed_lines.specs.Lines as def;
+ghost use Rattle.printed_lines.specs.OutcomeLines as outcome_lines;
 
 use crate::names::{argument_name, literal_name, program_name};
 use crate::refusal::{
@@ -159,7 +160,7 @@ pub fn named_done_line(
 ) -> Result<Vec<u8>, AllocError>
     ensures { let P = meaning program.now in let t = type_at (types_of program.now) ty in
         IfOk result (λ line. (v : Value) → IsShallow P.types t v → length bytes.now < 2 ^ 32 → bytes.now ≡ spelling v
-        → line.items ≡ def.named_done_line P.types (constructor_names program.now.types.named.items) t v) }
+        → line.items ≡ outcome_lines.named_done_line P.types (constructor_names program.now.types.named.items) t v) }
 {
     value_line(alloc, b"done ", program, ty, bytes)
 }
@@ -189,7 +190,7 @@ fn value_line(
 ) -> Result<Vec<u8>, AllocError>
     ensures { let P = meaning program.now in let t = type_at (types_of program.now) ty in
         IfOk result (λ line. (v : Value) → IsShallow P.types t v → length bytes.now < 2 ^ 32 → bytes.now ≡ spelling v
-        → line.items ≡ def.value_line front.now P.types (constructor_names program.now.types.named.items) t v) }
+        → line.items ≡ outcome_lines.value_line front.now P.types (constructor_names program.now.types.named.items) t v) }
 {
     let value = print_value(alloc, program, ty, bytes)?;
     between(alloc, front, &value)
@@ -310,7 +311,7 @@ pub fn agrees_line(alloc: Global, line: &[u8]) -> Result<Vec<u8>, AllocError>
 
 /// A line that ends with these bytes.
 pub(crate) fn between(alloc: Global, front: &[u8], text: &[u8]) -> Result<Vec<u8>, AllocError>
-    ensures { IfOk result (λ line. line.items ≡ def.line_of front.now text.now) }
+    ensures { IfOk result (λ line. line.items ≡ outcome_lines.line_of front.now text.now) }
 {
     let mut line = Vec::from_slice(alloc, front)?;
     line.extend_from_slice(text)?;
@@ -320,7 +321,7 @@ pub(crate) fn between(alloc: Global, front: &[u8], text: &[u8]) -> Result<Vec<u8
 
 /// The line of a trap.
 pub fn trap_line(trap: Trap) -> &'static str
-    ensures { result.now ≡ def.trap_line (trap_told trap) }
+    ensures { result.now ≡ outcome_lines.trap_line (trap_told trap) }
 {
     match trap {
         Trap::Overflow => "trap overflow\n",
@@ -333,7 +334,7 @@ pub fn trap_line(trap: Trap) -> &'static str
 
 /// The line of an outcome without the fuel that was wanted.
 pub fn out_line() -> &'static str
-    ensures { result.now ≡ def.out_line }
+    ensures { result.now ≡ outcome_lines.out_line }
 {
     "out of fuel\n"
 }

@@ -16,7 +16,7 @@ use Rattle.core_terms.specs.declared.roles.RoleKind.{RoleKind}
 use Rattle.core_terms.specs.declared.roles.RoleKind.TheVariants as role_kind
 use Rattle.ideal_meaning.specs.Ideal as ideal
 use Rattle.ideal_meaning.specs.SpelledOutcomes.{SpellsOutcome}
-use Rattle.printed_lines.specs.Lines.{named_done_line}
+use Rattle.printed_lines.specs.OutcomeLines.{named_done_line}
 use Rattle.printed_syntax.specs.Literals.{ConstructorNames}
 use Rattle.printed_lines.specs.SessionLines.{session_line}
 use Rattle.session_meaning.specs.Client as meant

@@ -5,7 +5,8 @@ use Rattle.core_terms.specs.Roles.{Role}
 use Rattle.core_terms.specs.Terms.{Program}
 use Rattle.core_terms.specs.Types.{Ty}
 use Rattle.ideal_meaning.specs.Ideal.{Outcome, Done, Trapped, Out}
-use Rattle.printed_lines.specs.Lines.{bad_message_line, cut_line, long_message_line, named_done_line, no_reply_line, out_line, rejected_line, trap_line}
+use Rattle.printed_lines.specs.Lines.{bad_message_line, cut_line, long_message_line, no_reply_line, rejected_line}
+use Rattle.printed_lines.specs.OutcomeLines.{named_done_line, out_line, trap_line}
 use Rattle.printed_lines.specs.SessionLines.{ended_line, out_of_turn_line, refused_line, server_closed_line, session_line, stale_line, stranger_line, welcome_line, wrong_reply_line}
 use Rattle.printed_syntax.specs.Literals.{ConstructorNames}
 use Rattle.session_meaning.specs.Client as client

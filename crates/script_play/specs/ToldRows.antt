@@ -34,7 +34,7 @@ use Rattle.wire_form.specs.MessageViews.{request_meant}
 use Rattle.wire_form.specs.declared.message.ReadStop.{ReadStop}
 use Rattle.wire_form.specs.declared.message.ReadStop.TheVariants as stop
 use Rattle.wire_form.specs.declared.message.Request.{Request as AskedRequest}
-use Rattle.printed_lines.specs.Lines.{out_line}
+use Rattle.printed_lines.specs.OutcomeLines.{out_line}
 use Rattle.printed_syntax.specs.Literals.{ConstructorNames}
 use Rattle.ask_core.specs.Replies.{IsAnswer, called_type}
 use Rattle.ask_core.specs.Sessions.{IsCalledRole}

@@ -1,7 +1,7 @@
 use Rattle.std.proofs.Common.{None, Err, inl, inr, refl}
 use Rattle.command_words.specs.declared.command.Command.TheVariants.{Draw}
 use Rattle.file_commands.specs.Answer.{undrawn_answer}
-use Rattle.file_commands.specs.Ending.{outside}
+use Rattle.file_commands.specs.Outsides.{outside}
 use Rattle.file_commands.specs.declared.report.Report.{Report}
 use Rattle.file_commands.proofs.Ends.{ends_as, judging}
 use Rattle.file_commands.proofs.Possible.{found_possible, told_possible}

@@ -2,7 +2,7 @@ use Rattle.std.proofs.Common.{Some, refl, subst}
 use Rattle.command_words.specs.Commands.{texts}
 use Rattle.command_words.specs.Invocations.{invoked}
 use Rattle.file_commands.specs.Answer.{answer, command_answer}
-use Rattle.file_commands.specs.AnswerForms.{usage_answer}
+use Rattle.file_commands.specs.RefusedAnswers.{usage_answer}
 use Rattle.auth_cli.specs.NetRuns.{CallsNoDisk, CallsNoNet}
 use Rattle.file_commands.specs.declared.report.Halt.TheVariants.{NoMemory, Usage}
 use Rattle.auth_cli.proofs.Called.{memory_told, none_called, none_refused, possible_called, reached_called, usage_told}

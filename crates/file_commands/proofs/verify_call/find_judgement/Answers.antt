@@ -5,7 +5,8 @@ use Rattle.lam_outside.specs.Told.{Contents}
 use Rattle.lam_outside.specs.FileSteps.{StartsAt}
 use Rattle.core_terms.specs.declared.program.Program.{Program}
 use Rattle.code_gen.specs.Programs.{program_in}
-use Rattle.file_commands.specs.Answer.{callee_of, verified_answer}
+use Rattle.file_commands.specs.Answer.{verified_answer}
+use Rattle.file_commands.specs.AcceptedAnswers.{callee_of}
 use Rattle.file_commands.specs.RoleInputs.{RoleCall, with_fueled_role, with_role_call}
 use Rattle.file_commands.specs.FileInputs.{with_bytes}
 use Rattle.file_commands.specs.AnswerForms.{Answer}

@@ -6,7 +6,7 @@ use Rattle.core_terms.specs.declared.program.Program.{Program}
 use Rattle.ideal_meaning.specs.SpelledOutcomes.{SpellsOutcome}
 use Rattle.verifier_mode.specs.Verdicts.{TellsSomeOutcome}
 use Rattle.core_terms.specs.declared.byte_string.ByteString.{ByteString as Spelling}
-use Rattle.file_commands.specs.Answer.{accepted_answer}
+use Rattle.file_commands.specs.AcceptedAnswers.{accepted_answer}
 use Rattle.file_commands.specs.RoleInputs.{role_verdict}
 use Rattle.file_commands.specs.RoleCalls.{result_called}
 use Rattle.file_commands.specs.RolesCalled.{role_of}

@@ -1,6 +1,6 @@
 use Rattle.std.proofs.Common.{◌≡◌, ◌⊎◌, ℕ, Option, Some, Vec, inl, inr, sym, ap, ◌∙◌, subst}
 use Rattle.std.specs.declared.alloc.Global.{Global}
-use Rattle.file_commands.specs.Answer.{spelling_stored}
+use Rattle.file_commands.specs.AcceptedAnswers.{spelling_stored}
 use Rattle.file_commands.specs.RolesCalled.{role_of}
 use Rattle.file_commands.specs.RolesJudged.{name_of}
 use Rattle.file_commands.specs.Storing.{stored_as}

@@ -7,7 +7,8 @@ use Rattle.command_words.specs.declared.command.Command.TheVariants.{Verify}
 use Rattle.lam_outside.specs.Told.{Contents, Names}
 use Rattle.file_commands.specs.Answer.{answer_with, judged_answer}
 use Rattle.file_commands.specs.AnswerForms.{Answer}
-use Rattle.file_commands.specs.Ending.{EndsAs, Outside}
+use Rattle.file_commands.specs.Ending.{EndsAs}
+use Rattle.file_commands.specs.Outsides.{Outside}
 use Rattle.file_commands.specs.Reaching.{IsReached}
 use Rattle.file_commands.specs.RolesJudged.{name_of}
 use Rattle.file_commands.specs.Storing.{FindsOutput}

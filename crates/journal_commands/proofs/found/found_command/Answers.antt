@@ -1,6 +1,6 @@
 use Rattle.std.proofs.Common.{Err, refl}
 use Rattle.command_words.specs.declared.command.Command.TheVariants.{Found}
-use Rattle.file_commands.specs.Ending.{outside}
+use Rattle.file_commands.specs.Outsides.{outside}
 use Rattle.file_commands.proofs.Possible.{found_possible, told_possible}
 use Rattle.file_commands.proofs.Words.{text_at}
 use Rattle.journal_commands.specs.DisksSeen.{disk_seen, file_on}

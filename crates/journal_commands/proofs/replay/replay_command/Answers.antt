@@ -2,7 +2,7 @@ use Rattle.std.proofs.Common.{Result, Ok, Err, refl, ◌∙◌}
 use Rattle.command_words.specs.Commands.{texts}
 use Rattle.command_words.specs.declared.command.Command.TheVariants.{Replay}
 use Rattle.file_commands.specs.Answer.{answer_with}
-use Rattle.file_commands.specs.Ending.{outside}
+use Rattle.file_commands.specs.Outsides.{outside}
 use Rattle.file_commands.specs.declared.report.Halt.{Halt}
 use Rattle.file_commands.specs.declared.report.Output.{Output}
 use Rattle.file_commands.proofs.Possible.{output_possible, stored_possible}
