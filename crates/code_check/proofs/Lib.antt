@@ -1,5 +1,7 @@
--- Which functions the files serve. All that add to a table of lists, and `count` and `without_first`:
+-- Which functions the files serve. All that add to a table of lists, and `without_first`:
 pub mod ListsOfTypes
+-- all of `spans`, and `count`, `at` and `without_first`
+pub mod SpansOfTypes
 -- `copied` and `plain`
 pub mod CopiedTables
 -- `taken_off`

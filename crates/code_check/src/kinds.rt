@@ -14,10 +14,10 @@ ghost use Rattle.code_check.specs.ObjectParts.{body_of_parts, function_with, par
 ghost use Rattle.code_check.specs.TypeLists.{Grows};
 
 use crate::known::{Frame, Known};
-use crate::lists::{copied, plain, stacked};
+use crate::lists::{Lists, copied, plain, stacked};
 use crate::parts::Parts;
 use crate::ways::lead_on;
-use core_terms::{Function, Instruction, TyForm, TyId, TyTable};
+use core_terms::{Function, Instruction, TyForm, TyId};
 use std::alloc::{AllocError, Global};
 
 /// An instruction of a function, by their numbers.
@@ -53,17 +53,17 @@ pub fn kind_fault(alloc: Global, parts: &Parts) -> Result<Option<Spot>, AllocErr
 
 /// The first instruction at fault of a function; of one without instructions it is the first that would be there.
 fn function_fault(
-    lists: &mut TyTable,
+    lists: &mut Lists,
     parts: &Parts,
     function: &Function,
     code: &[Instruction],
     alloc: Global,
 ) -> Result<Option<usize>, AllocError>
-    requires table { Grows (types_in parts.now.types) (types_in lists.old) }
+    requires table { Grows (types_in parts.now.types) (types_in lists.old.types) }
     requires function { has_types_below (length (types_in parts.now.types)) function.now ≡ true }
     requires code { list_all (is_listable (length (types_in parts.now.types))) code.now ≡ true }
     ensures fault { IfOk result (λ fault. fault ≡ kinds.function_fault (body_of_parts parts.now) (function_with (types_in parts.now.types) function.now code.now)) }
-    ensures grows { Grows (types_in lists.old) (types_in lists.new) }
+    ensures grows { Grows (types_in lists.old.types) (types_in lists.new.types) }
 {
     let mut known = vec![in alloc; Known::Unreached; code.len()]?;
     let start = start_of(lists, function)?;
@@ -76,20 +76,20 @@ fn function_fault(
 
 /// The first instruction at fault of a function with this result, where this is known of each at first.
 fn first_fault(
-    lists: &mut TyTable,
+    lists: &mut Lists,
     parts: &Parts,
     result_type: TyId,
     code: &[Instruction],
     known: &mut [Known],
 ) -> Result<Option<usize>, AllocError>
-    requires table { Grows (types_in parts.now.types) (types_in lists.old) }
+    requires table { Grows (types_in parts.now.types) (types_in lists.old.types) }
     requires result_type { result_type.0 < length (types_in parts.now.types) }
     requires code { list_all (is_listable (length (types_in parts.now.types))) code.now ≡ true }
     requires length { length known.old ≡ length code.now }
-    requires known { (ks : List kinds.Known) × AreKnown (types_in lists.old) known.old ks }
-    ensures fault { IfOk result (λ fault. (ks : List kinds.Known) → AreKnown (types_in lists.old) known.old ks
+    requires known { (ks : List kinds.Known) × AreKnown (types_in lists.old.types) known.old ks }
+    ensures fault { IfOk result (λ fault. (ks : List kinds.Known) → AreKnown (types_in lists.old.types) known.old ks
         → fault ≡ kinds.first_fault (body_of_parts parts.now) (type_at (types_in parts.now.types) result_type) (instructions_of (types_in parts.now.types) code.now) 0 ks) }
-    ensures grows { Grows (types_in lists.old) (types_in lists.new) }
+    ensures grows { Grows (types_in lists.old.types) (types_in lists.new.types) }
 {
     for (place, instruction) in code.iter().enumerate() {
         let Known::Reached(at) = known[place] else {
@@ -104,10 +104,10 @@ fn first_fault(
 }
 
 /// The frame at the first instruction of a function: its parameters are the locals, and there is no operand.
-fn start_of(lists: &mut TyTable, function: &Function) -> Result<Frame, AllocError>
-    requires parameters { are_below (length (types_in lists.old)) function.now.parameters.items ≡ true }
-    ensures frame { IfOk result (λ at. IsFrame (types_in lists.new) at (shape (types_at (types_in lists.old) function.now.parameters.items) [])) }
-    ensures grows { Grows (types_in lists.old) (types_in lists.new) }
+fn start_of(lists: &mut Lists, function: &Function) -> Result<Frame, AllocError>
+    requires parameters { are_below (length (types_in lists.old.types)) function.now.parameters.items ≡ true }
+    ensures frame { IfOk result (λ at. IsFrame (types_in lists.new.types) at (shape (types_at (types_in lists.old.types) function.now.parameters.items) [])) }
+    ensures grows { Grows (types_in lists.old.types) (types_in lists.new.types) }
 {
     let operands = plain(lists, TyForm::UnitForm)?;
     let locals = stacked(lists, &function.parameters, operands)?;

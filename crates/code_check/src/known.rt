@@ -5,8 +5,8 @@ ghost use Rattle.core_terms.specs.CodeShapes.{Shape};
 ghost use Rattle.core_terms.specs.Kinds as kinds;
 ghost use Rattle.code_check.specs.KnownTypes.{IsFrame, IsKnown, AreKnown, IsReached};
 
-use crate::lists::count;
-use core_terms::{TyId, TyTable};
+use crate::lists::{Lists, count};
+use core_terms::TyId;
 
 /// How many locals there may be at an instruction.
 const MOST_LOCALS: usize = 255;
@@ -27,8 +27,8 @@ pub enum Known {
 }
 
 /// With one more way that leads there.
-fn met(lists: &TyTable, known: Known, at: Frame) -> Known
-    ensures { (k : kinds.Known) (s : Shape) → IsKnown (types_in lists.now) known k → IsFrame (types_in lists.now) at s → IsKnown (types_in lists.now) result (kinds.met k s) }
+fn met(lists: &Lists, known: Known, at: Frame) -> Known
+    ensures { (k : kinds.Known) (s : Shape) → IsKnown (types_in lists.now.types) known k → IsFrame (types_in lists.now.types) at s → IsKnown (types_in lists.now.types) result (kinds.met k s) }
 {
     match known {
         Known::Unreached => Known::Reached(at),
@@ -42,9 +42,9 @@ fn met(lists: &TyTable, known: Known, at: Frame) -> Known
 
 /// Goes a way on to the instruction behind which so many of those that follow are passed over; `false` where it leads past the last of them, or
 /// to more than 255 locals.
-pub fn reach(lists: &TyTable, behind: &mut [Known], passed: usize, at: Frame) -> bool
-    ensures { (ks : List kinds.Known) (s : Shape) → AreKnown (types_in lists.now) behind.old ks → IsFrame (types_in lists.now) at s
-        → IsReached (types_in lists.now) (kinds.reach_all (kinds.way passed s.locals s.operands ∷ []) ks) behind.new result }
+pub fn reach(lists: &Lists, behind: &mut [Known], passed: usize, at: Frame) -> bool
+    ensures { (ks : List kinds.Known) (s : Shape) → AreKnown (types_in lists.now.types) behind.old ks → IsFrame (types_in lists.now.types) at s
+        → IsReached (types_in lists.now.types) (kinds.reach_all (kinds.way passed s.locals s.operands ∷ []) ks) behind.new result }
 {
     if count(lists, at.locals) > MOST_LOCALS || passed >= behind.len() {
         return false;

@@ -4,7 +4,7 @@
 //! `listed`, with the modules whose names begin with it, makes the parts of a program of what `object_reader` reads, `shapes` and `kinds`
 //! find the first fault of these, and `acceptance` puts them together. `kinds` goes over the instructions of a function: `steps` says what one
 //! leaves, `ways` where it leads, `known` what is known of those ahead. `lists` has lists of types as types, so that two of them are compared
-//! by number.
+//! by number, and `spans` the short ways through them.
 #![tactic(auto)]
 
 mod acceptance;
@@ -19,6 +19,7 @@ mod lists;
 mod operations;
 mod parts;
 mod shapes;
+mod spans;
 mod steps;
 mod ways;
 

@@ -11,17 +11,17 @@ ghost use Rattle.code_check.specs.ObjectParts.{body_of_parts};
 ghost use Rattle.code_check.specs.TypeLists.{Grows, IsLeft, IsList};
 
 use crate::known::Frame;
-use crate::lists::{interned, plain, stacked, taken_off, with_top};
+use crate::lists::{Lists, interned, plain, stacked, taken_off, with_top};
 use crate::parts::Parts;
-use core_terms::{Function, FunctionId, NamedId, Tag, TyForm, TyId, TyTable};
+use core_terms::{Function, FunctionId, NamedId, Tag, TyForm, TyId};
 use std::alloc::AllocError;
 
 /// Behind an operand of a type without parts.
-pub fn pushed(lists: &mut TyTable, form: TyForm, at: Frame) -> Result<Option<Frame>, AllocError>
-    requires at { IsAt (types_in lists.old) at }
+pub fn pushed(lists: &mut Lists, form: TyForm, at: Frame) -> Result<Option<Frame>, AllocError>
+    requires at { IsAt (types_in lists.old.types) at }
     requires form { stands_behind 0 form ≡ true }
-    ensures next { IfOk result (LeadsTo (types_in lists.old) at (λ s. kinds.next s.locals (type_of_form [] form ∷ s.operands)) (types_in lists.new)) }
-    ensures grows { Grows (types_in lists.old) (types_in lists.new) }
+    ensures next { IfOk result (LeadsTo (types_in lists.old.types) at (λ s. kinds.next s.locals (type_of_form [] form ∷ s.operands)) (types_in lists.new.types)) }
+    ensures grows { Grows (types_in lists.old.types) (types_in lists.new.types) }
 {
     let ty = plain(lists, form)?;
     let operands = with_top(lists, ty, at.operands)?;
@@ -29,13 +29,13 @@ pub fn pushed(lists: &mut TyTable, form: TyForm, at: Frame) -> Result<Option<Fra
 }
 
 /// The operands without those of these types, the last of which is on top; none where one of them isn't there, or has another type.
-fn without(lists: &mut TyTable, takes: &[TyId], operands: TyId) -> Result<Option<TyId>, AllocError>
-    requires takes { are_below (length (types_in lists.old)) takes.now ≡ true }
-    requires operands { operands.0 < length (types_in lists.old) }
-    ensures left { IfOk result (λ left. (os : List Ty) → IsList (types_in lists.old) operands os → IsLeft (types_in lists.new) (kinds.without (types_at (types_in lists.old) takes.now) os) left) }
-    ensures within { IfOk result (λ left. IfSome left (λ id. id.0 < length (types_in lists.new))) }
-    ensures grows { Grows (types_in lists.old) (types_in lists.new) }
-    ensures longer { length (types_in lists.old) ≤ length (types_in lists.new) }
+fn without(lists: &mut Lists, takes: &[TyId], operands: TyId) -> Result<Option<TyId>, AllocError>
+    requires takes { are_below (length (types_in lists.old.types)) takes.now ≡ true }
+    requires operands { operands.0 < length (types_in lists.old.types) }
+    ensures left { IfOk result (λ left. (os : List Ty) → IsList (types_in lists.old.types) operands os → IsLeft (types_in lists.new.types) (kinds.without (types_at (types_in lists.old.types) takes.now) os) left) }
+    ensures within { IfOk result (λ left. IfSome left (λ id. id.0 < length (types_in lists.new.types))) }
+    ensures grows { Grows (types_in lists.old.types) (types_in lists.new.types) }
+    ensures longer { length (types_in lists.old.types) ≤ length (types_in lists.new.types) }
 {
     let nothing = plain(lists, TyForm::UnitForm)?;
     let takes = stacked(lists, takes, nothing)?;
@@ -44,16 +44,16 @@ fn without(lists: &mut TyTable, takes: &[TyId], operands: TyId) -> Result<Option
 
 /// The operands without the top one, which has the type of a form without parts; none where it isn't there, or has another type.
 pub fn without_plain(
-    lists: &mut TyTable,
+    lists: &mut Lists,
     form: TyForm,
     operands: TyId,
 ) -> Result<Option<TyId>, AllocError>
     requires form { stands_behind 0 form ≡ true }
-    requires operands { operands.0 < length (types_in lists.old) }
-    ensures left { IfOk result (λ left. (os : List Ty) → IsList (types_in lists.old) operands os → IsLeft (types_in lists.new) (kinds.without_one (type_of_form [] form) os) left) }
-    ensures within { IfOk result (λ left. IfSome left (λ id. id.0 < length (types_in lists.new))) }
-    ensures grows { Grows (types_in lists.old) (types_in lists.new) }
-    ensures longer { length (types_in lists.old) ≤ length (types_in lists.new) }
+    requires operands { operands.0 < length (types_in lists.old.types) }
+    ensures left { IfOk result (λ left. (os : List Ty) → IsList (types_in lists.old.types) operands os → IsLeft (types_in lists.new.types) (kinds.without_one (type_of_form [] form) os) left) }
+    ensures within { IfOk result (λ left. IfSome left (λ id. id.0 < length (types_in lists.new.types))) }
+    ensures grows { Grows (types_in lists.old.types) (types_in lists.new.types) }
+    ensures longer { length (types_in lists.old.types) ≤ length (types_in lists.new.types) }
 {
     let ty = plain(lists, form)?;
     without(lists, &[ty], operands)
@@ -61,16 +61,16 @@ pub fn without_plain(
 
 /// Behind operands of the first types, in the place of which stands one of the second type.
 fn behind_operands(
-    lists: &mut TyTable,
+    lists: &mut Lists,
     takes: &[TyId],
     gives: TyId,
     at: Frame,
 ) -> Result<Option<Frame>, AllocError>
-    requires at { IsAt (types_in lists.old) at }
-    requires takes { are_below (length (types_in lists.old)) takes.now ≡ true }
-    requires gives { gives.0 < length (types_in lists.old) }
-    ensures next { IfOk result (LeadsTo (types_in lists.old) at (λ s. kinds.behind_operands (types_at (types_in lists.old) takes.now) (type_at (types_in lists.old) gives) s.locals s.operands) (types_in lists.new)) }
-    ensures grows { Grows (types_in lists.old) (types_in lists.new) }
+    requires at { IsAt (types_in lists.old.types) at }
+    requires takes { are_below (length (types_in lists.old.types)) takes.now ≡ true }
+    requires gives { gives.0 < length (types_in lists.old.types) }
+    ensures next { IfOk result (LeadsTo (types_in lists.old.types) at (λ s. kinds.behind_operands (types_at (types_in lists.old.types) takes.now) (type_at (types_in lists.old.types) gives) s.locals s.operands) (types_in lists.new.types)) }
+    ensures grows { Grows (types_in lists.old.types) (types_in lists.new.types) }
 {
     let Some(left) = without(lists, takes, at.operands)? else {
         return Ok(None);
@@ -81,16 +81,16 @@ fn behind_operands(
 
 /// Behind an operation on one operand. Its type and that of the result have no parts.
 pub fn unary(
-    lists: &mut TyTable,
+    lists: &mut Lists,
     takes: TyForm,
     gives: TyForm,
     at: Frame,
 ) -> Result<Option<Frame>, AllocError>
-    requires at { IsAt (types_in lists.old) at }
+    requires at { IsAt (types_in lists.old.types) at }
     requires takes { stands_behind 0 takes ≡ true }
     requires gives { stands_behind 0 gives ≡ true }
-    ensures next { IfOk result (LeadsTo (types_in lists.old) at (λ s. kinds.behind_operands (type_of_form [] takes ∷ []) (type_of_form [] gives) s.locals s.operands) (types_in lists.new)) }
-    ensures grows { Grows (types_in lists.old) (types_in lists.new) }
+    ensures next { IfOk result (LeadsTo (types_in lists.old.types) at (λ s. kinds.behind_operands (type_of_form [] takes ∷ []) (type_of_form [] gives) s.locals s.operands) (types_in lists.new.types)) }
+    ensures grows { Grows (types_in lists.old.types) (types_in lists.new.types) }
 {
     let takes = plain(lists, takes)?;
     let gives = plain(lists, gives)?;
@@ -99,16 +99,16 @@ pub fn unary(
 
 /// Behind an operation on two operands of one type. It and that of the result have no parts.
 pub fn binary(
-    lists: &mut TyTable,
+    lists: &mut Lists,
     takes: TyForm,
     gives: TyForm,
     at: Frame,
 ) -> Result<Option<Frame>, AllocError>
-    requires at { IsAt (types_in lists.old) at }
+    requires at { IsAt (types_in lists.old.types) at }
     requires takes { stands_behind 0 takes ≡ true }
     requires gives { stands_behind 0 gives ≡ true }
-    ensures next { IfOk result (LeadsTo (types_in lists.old) at (λ s. kinds.behind_operands (type_of_form [] takes ∷ type_of_form [] takes ∷ []) (type_of_form [] gives) s.locals s.operands) (types_in lists.new)) }
-    ensures grows { Grows (types_in lists.old) (types_in lists.new) }
+    ensures next { IfOk result (LeadsTo (types_in lists.old.types) at (λ s. kinds.behind_operands (type_of_form [] takes ∷ type_of_form [] takes ∷ []) (type_of_form [] gives) s.locals s.operands) (types_in lists.new.types)) }
+    ensures grows { Grows (types_in lists.old.types) (types_in lists.new.types) }
 {
     let takes = plain(lists, takes)?;
     let gives = plain(lists, gives)?;
@@ -116,22 +116,22 @@ pub fn binary(
 }
 
 /// Behind `auth` of a value of a type.
-pub fn authenticated(lists: &mut TyTable, ty: TyId, at: Frame) -> Result<Option<Frame>, AllocError>
-    requires at { IsAt (types_in lists.old) at }
-    requires ty { ty.0 < length (types_in lists.old) }
-    ensures next { IfOk result (LeadsTo (types_in lists.old) at (λ s. kinds.behind_operands (type_at (types_in lists.old) ty ∷ []) (AuthTy (type_at (types_in lists.old) ty)) s.locals s.operands) (types_in lists.new)) }
-    ensures grows { Grows (types_in lists.old) (types_in lists.new) }
+pub fn authenticated(lists: &mut Lists, ty: TyId, at: Frame) -> Result<Option<Frame>, AllocError>
+    requires at { IsAt (types_in lists.old.types) at }
+    requires ty { ty.0 < length (types_in lists.old.types) }
+    ensures next { IfOk result (LeadsTo (types_in lists.old.types) at (λ s. kinds.behind_operands (type_at (types_in lists.old.types) ty ∷ []) (AuthTy (type_at (types_in lists.old.types) ty)) s.locals s.operands) (types_in lists.new.types)) }
+    ensures grows { Grows (types_in lists.old.types) (types_in lists.new.types) }
 {
     let auth = interned(lists, TyForm::AuthForm(ty))?;
     behind_operands(lists, &[ty], auth, at)
 }
 
 /// Behind `unauth` to a value of a type.
-pub fn opened(lists: &mut TyTable, ty: TyId, at: Frame) -> Result<Option<Frame>, AllocError>
-    requires at { IsAt (types_in lists.old) at }
-    requires ty { ty.0 < length (types_in lists.old) }
-    ensures next { IfOk result (LeadsTo (types_in lists.old) at (λ s. kinds.behind_operands (AuthTy (type_at (types_in lists.old) ty) ∷ []) (type_at (types_in lists.old) ty) s.locals s.operands) (types_in lists.new)) }
-    ensures grows { Grows (types_in lists.old) (types_in lists.new) }
+pub fn opened(lists: &mut Lists, ty: TyId, at: Frame) -> Result<Option<Frame>, AllocError>
+    requires at { IsAt (types_in lists.old.types) at }
+    requires ty { ty.0 < length (types_in lists.old.types) }
+    ensures next { IfOk result (LeadsTo (types_in lists.old.types) at (λ s. kinds.behind_operands (AuthTy (type_at (types_in lists.old.types) ty) ∷ []) (type_at (types_in lists.old.types) ty) s.locals s.operands) (types_in lists.new.types)) }
+    ensures grows { Grows (types_in lists.old.types) (types_in lists.new.types) }
 {
     let auth = interned(lists, TyForm::AuthForm(ty))?;
     behind_operands(lists, &[auth], ty, at)
@@ -139,16 +139,16 @@ pub fn opened(lists: &mut TyTable, ty: TyId, at: Frame) -> Result<Option<Frame>,
 
 /// Behind a constructor of a named type, of its fields; none where there is no such constructor.
 pub fn made(
-    lists: &mut TyTable,
+    lists: &mut Lists,
     parts: &Parts,
     named: NamedId,
     tag: Tag,
     at: Frame,
 ) -> Result<Option<Frame>, AllocError>
-    requires table { Grows (types_in parts.now.types) (types_in lists.old) }
-    requires at { IsAt (types_in lists.old) at }
-    ensures next { (z : Ty) → IfOk result (LeadsTo (types_in lists.old) at (λ s. kinds.ways (body_of_parts parts.now) z (meant.Make named.0 tag.0) s.locals s.operands) (types_in lists.new)) }
-    ensures grows { Grows (types_in lists.old) (types_in lists.new) }
+    requires table { Grows (types_in parts.now.types) (types_in lists.old.types) }
+    requires at { IsAt (types_in lists.old.types) at }
+    ensures next { (z : Ty) → IfOk result (LeadsTo (types_in lists.old.types) at (λ s. kinds.ways (body_of_parts parts.now) z (meant.Make named.0 tag.0) s.locals s.operands) (types_in lists.new.types)) }
+    ensures grows { Grows (types_in lists.old.types) (types_in lists.new.types) }
 {
     let Some(fields) = fields_of(parts, named, tag) else {
         return Ok(None);
@@ -169,15 +169,15 @@ fn fields_of(parts: &Parts, named: NamedId, tag: Tag) -> Option<&[TyId]>
 
 /// Behind a call of a function, on its arguments. Where there is no such function, a call takes nothing and gives `unit`.
 pub fn called(
-    lists: &mut TyTable,
+    lists: &mut Lists,
     parts: &Parts,
     function: FunctionId,
     at: Frame,
 ) -> Result<Option<Frame>, AllocError>
-    requires table { Grows (types_in parts.now.types) (types_in lists.old) }
-    requires at { IsAt (types_in lists.old) at }
-    ensures next { (z : Ty) → IfOk result (LeadsTo (types_in lists.old) at (λ s. kinds.ways (body_of_parts parts.now) z (meant.Call function.0) s.locals s.operands) (types_in lists.new)) }
-    ensures grows { Grows (types_in lists.old) (types_in lists.new) }
+    requires table { Grows (types_in parts.now.types) (types_in lists.old.types) }
+    requires at { IsAt (types_in lists.old.types) at }
+    ensures next { (z : Ty) → IfOk result (LeadsTo (types_in lists.old.types) at (λ s. kinds.ways (body_of_parts parts.now) z (meant.Call function.0) s.locals s.operands) (types_in lists.new.types)) }
+    ensures grows { Grows (types_in lists.old.types) (types_in lists.new.types) }
 {
     match function_of(parts, function) {
         Some(function) => behind_operands(lists, &function.parameters, function.result, at),

@@ -12,25 +12,25 @@ ghost use Rattle.code_check.specs.ObjectParts.{body_of_parts};
 ghost use Rattle.code_check.specs.TypeLists.{Grows, IsList, IsThere};
 
 use crate::known::Frame;
-use crate::lists::{at, count, interned, top_of, with_top, without_first};
+use crate::lists::{Lists, at, count, interned, top_of, with_top, without_first};
 use crate::operations::{authenticated, binary, called, made, opened, pushed, unary};
 use crate::parts::Parts;
-use core_terms::{Instruction, LocalId, TyForm, TyId, TyTable};
+use core_terms::{Instruction, LocalId, TyForm, TyId};
 use std::alloc::AllocError;
 
 /// The frame behind an instruction that leads to the next one alone; none where an operand or a local isn't there, or has another type.
 pub fn step(
-    lists: &mut TyTable,
+    lists: &mut Lists,
     parts: &Parts,
     instruction: &Instruction,
     at: Frame,
 ) -> Result<Option<Frame>, AllocError>
-    requires table { Grows (types_in parts.now.types) (types_in lists.old) }
-    requires at { IsAt (types_in lists.old) at }
+    requires table { Grows (types_in parts.now.types) (types_in lists.old.types) }
+    requires at { IsAt (types_in lists.old.types) at }
     requires instruction { is_listable (length (types_in parts.now.types)) instruction.now ≡ true }
     ensures next { (z : Ty) → is_straight instruction.now ≡ true
-        → IfOk result (LeadsTo (types_in lists.old) at (λ s. kinds.ways (body_of_parts parts.now) z (instruction_of (types_in parts.now.types) instruction.now) s.locals s.operands) (types_in lists.new)) }
-    ensures grows { Grows (types_in lists.old) (types_in lists.new) }
+        → IfOk result (LeadsTo (types_in lists.old.types) at (λ s. kinds.ways (body_of_parts parts.now) z (instruction_of (types_in parts.now.types) instruction.now) s.locals s.operands) (types_in lists.new.types)) }
+    ensures grows { Grows (types_in lists.old.types) (types_in lists.new.types) }
 {
     match instruction {
         Instruction::PushUnit => pushed(lists, TyForm::UnitForm, at),
@@ -58,10 +58,10 @@ pub fn step(
 }
 
 /// Behind a local, which becomes the top operand.
-fn loaded(lists: &mut TyTable, local: LocalId, at: Frame) -> Result<Option<Frame>, AllocError>
-    requires at { IsAt (types_in lists.old) at }
-    ensures next { (B : Body) (z : Ty) → IfOk result (LeadsTo (types_in lists.old) at (λ s. kinds.ways B z (meant.Load local.0) s.locals s.operands) (types_in lists.new)) }
-    ensures grows { Grows (types_in lists.old) (types_in lists.new) }
+fn loaded(lists: &mut Lists, local: LocalId, at: Frame) -> Result<Option<Frame>, AllocError>
+    requires at { IsAt (types_in lists.old.types) at }
+    ensures next { (B : Body) (z : Ty) → IfOk result (LeadsTo (types_in lists.old.types) at (λ s. kinds.ways B z (meant.Load local.0) s.locals s.operands) (types_in lists.new.types)) }
+    ensures grows { Grows (types_in lists.old.types) (types_in lists.new.types) }
 {
     let Some(ty) = local_type(lists, local, at.locals) else {
         return Ok(None);
@@ -71,8 +71,8 @@ fn loaded(lists: &mut TyTable, local: LocalId, at: Frame) -> Result<Option<Frame
 }
 
 /// The type of a local, of those that stand last first; none where there is no such local.
-fn local_type(lists: &TyTable, local: LocalId, locals: TyId) -> Option<TyId>
-    ensures there { (ts : List Ty) → IsList (types_in lists.now) locals (reverse ts) → IsThere (types_in lists.now) (slice_get ts local.0) result }
+fn local_type(lists: &Lists, local: LocalId, locals: TyId) -> Option<TyId>
+    ensures there { (ts : List Ty) → IsList (types_in lists.now.types) locals (reverse ts) → IsThere (types_in lists.now.types) (slice_get ts local.0) result }
     ensures within { IfSome result (λ id. id.0 < locals.0) }
 {
     let count = count(lists, locals);
@@ -84,10 +84,10 @@ fn local_type(lists: &TyTable, local: LocalId, locals: TyId) -> Option<TyId>
 }
 
 /// Behind the top operand, which becomes the last local.
-fn bound(lists: &mut TyTable, at: Frame) -> Result<Option<Frame>, AllocError>
-    requires at { IsAt (types_in lists.old) at }
-    ensures next { (B : Body) (z : Ty) → IfOk result (LeadsTo (types_in lists.old) at (λ s. kinds.ways B z meant.Bind s.locals s.operands) (types_in lists.new)) }
-    ensures grows { Grows (types_in lists.old) (types_in lists.new) }
+fn bound(lists: &mut Lists, at: Frame) -> Result<Option<Frame>, AllocError>
+    requires at { IsAt (types_in lists.old.types) at }
+    ensures next { (B : Body) (z : Ty) → IfOk result (LeadsTo (types_in lists.old.types) at (λ s. kinds.ways B z meant.Bind s.locals s.operands) (types_in lists.new.types)) }
+    ensures grows { Grows (types_in lists.old.types) (types_in lists.new.types) }
 {
     let Some(top) = top_of(lists, at.operands) else {
         return Ok(None);
@@ -100,18 +100,18 @@ fn bound(lists: &mut TyTable, at: Frame) -> Result<Option<Frame>, AllocError>
 }
 
 /// Without so many of the last locals.
-fn unbound(lists: &TyTable, count: usize, at: Frame) -> Option<Frame>
-    ensures { (B : Body) (z : Ty) → LeadsTo (types_in lists.now) at (λ s. kinds.ways B z (meant.Unbind count) s.locals s.operands) (types_in lists.now) result }
+fn unbound(lists: &Lists, count: usize, at: Frame) -> Option<Frame>
+    ensures { (B : Body) (z : Ty) → LeadsTo (types_in lists.now.types) at (λ s. kinds.ways B z (meant.Unbind count) s.locals s.operands) (types_in lists.now.types) result }
 {
     let locals = without_first(lists, at.locals, count)?;
     Some(Frame { locals, ..at })
 }
 
 /// Behind the pair of the two top operands.
-fn paired(lists: &mut TyTable, at: Frame) -> Result<Option<Frame>, AllocError>
-    requires at { IsAt (types_in lists.old) at }
-    ensures next { (B : Body) (z : Ty) → IfOk result (LeadsTo (types_in lists.old) at (λ s. kinds.ways B z meant.Pair s.locals s.operands) (types_in lists.new)) }
-    ensures grows { Grows (types_in lists.old) (types_in lists.new) }
+fn paired(lists: &mut Lists, at: Frame) -> Result<Option<Frame>, AllocError>
+    requires at { IsAt (types_in lists.old.types) at }
+    ensures next { (B : Body) (z : Ty) → IfOk result (LeadsTo (types_in lists.old.types) at (λ s. kinds.ways B z meant.Pair s.locals s.operands) (types_in lists.new.types)) }
+    ensures grows { Grows (types_in lists.old.types) (types_in lists.new.types) }
 {
     let Some(second) = top_of(lists, at.operands) else {
         return Ok(None);
@@ -133,14 +133,14 @@ pub struct PairTop {
 }
 
 /// None where there is no operand, or the top one is no pair.
-fn pair_on_top(lists: &TyTable, operands: TyId) -> Option<PairTop>
-    ensures top { (os : List Ty) → IsList (types_in lists.now) operands os → IsPairOn (types_in lists.now) os result }
+fn pair_on_top(lists: &Lists, operands: TyId) -> Option<PairTop>
+    ensures top { (os : List Ty) → IsList (types_in lists.now.types) operands os → IsPairOn (types_in lists.now.types) os result }
     ensures first { IfSome result (λ top. top.first.0 < operands.0) }
     ensures second { IfSome result (λ top. top.second.0 < operands.0) }
     ensures others { IfSome result (λ top. top.others.0 < operands.0) }
 {
     let top = top_of(lists, operands)?;
-    match lists.form(top.first) {
+    match lists.types.form(top.first) {
         TyForm::PairForm(first, second) => Some(PairTop {
             first,
             second,
@@ -151,10 +151,10 @@ fn pair_on_top(lists: &TyTable, operands: TyId) -> Option<PairTop>
 }
 
 /// Behind the first of a pair.
-fn first_taken(lists: &mut TyTable, at: Frame) -> Result<Option<Frame>, AllocError>
-    requires at { IsAt (types_in lists.old) at }
-    ensures next { (B : Body) (z : Ty) → IfOk result (LeadsTo (types_in lists.old) at (λ s. kinds.ways B z meant.Fst s.locals s.operands) (types_in lists.new)) }
-    ensures grows { Grows (types_in lists.old) (types_in lists.new) }
+fn first_taken(lists: &mut Lists, at: Frame) -> Result<Option<Frame>, AllocError>
+    requires at { IsAt (types_in lists.old.types) at }
+    ensures next { (B : Body) (z : Ty) → IfOk result (LeadsTo (types_in lists.old.types) at (λ s. kinds.ways B z meant.Fst s.locals s.operands) (types_in lists.new.types)) }
+    ensures grows { Grows (types_in lists.old.types) (types_in lists.new.types) }
 {
     let Some(pair) = pair_on_top(lists, at.operands) else {
         return Ok(None);
@@ -164,10 +164,10 @@ fn first_taken(lists: &mut TyTable, at: Frame) -> Result<Option<Frame>, AllocErr
 }
 
 /// Behind the second of a pair.
-fn second_taken(lists: &mut TyTable, at: Frame) -> Result<Option<Frame>, AllocError>
-    requires at { IsAt (types_in lists.old) at }
-    ensures next { (B : Body) (z : Ty) → IfOk result (LeadsTo (types_in lists.old) at (λ s. kinds.ways B z meant.Snd s.locals s.operands) (types_in lists.new)) }
-    ensures grows { Grows (types_in lists.old) (types_in lists.new) }
+fn second_taken(lists: &mut Lists, at: Frame) -> Result<Option<Frame>, AllocError>
+    requires at { IsAt (types_in lists.old.types) at }
+    ensures next { (B : Body) (z : Ty) → IfOk result (LeadsTo (types_in lists.old.types) at (λ s. kinds.ways B z meant.Snd s.locals s.operands) (types_in lists.new.types)) }
+    ensures grows { Grows (types_in lists.old.types) (types_in lists.new.types) }
 {
     let Some(pair) = pair_on_top(lists, at.operands) else {
         return Ok(None);

@@ -15,31 +15,31 @@ ghost use Rattle.code_check.specs.ObjectParts.{body_of_parts};
 ghost use Rattle.code_check.specs.TypeLists.{Grows, IsList};
 
 use crate::known::{Frame, Known, reach};
-use crate::lists::{stacked, top_of};
+use crate::lists::{Lists, stacked, top_of};
 use crate::operations::without_plain;
 use crate::parts::Parts;
 use crate::steps::step;
-use core_terms::{Constructor, Instruction, NamedId, TyForm, TyId, TyTable};
+use core_terms::{Constructor, Instruction, NamedId, TyForm, TyId};
 use std::alloc::AllocError;
 
 /// Goes each way on from an instruction of a function with this result. `false` where the instruction is at fault: an operand or a local isn't
 /// there, or has another type, or a way leads past the last instruction or to more than 255 locals.
 pub fn lead_on(
-    lists: &mut TyTable,
+    lists: &mut Lists,
     parts: &Parts,
     result_type: TyId,
     instruction: &Instruction,
     at: Frame,
     behind: &mut [Known],
 ) -> Result<bool, AllocError>
-    requires table { Grows (types_in parts.now.types) (types_in lists.old) }
-    requires at { IsAt (types_in lists.old) at }
+    requires table { Grows (types_in parts.now.types) (types_in lists.old.types) }
+    requires at { IsAt (types_in lists.old.types) at }
     requires result_type { result_type.0 < length (types_in parts.now.types) }
     requires instruction { is_listable (length (types_in parts.now.types)) instruction.now ≡ true }
-    ensures behind { IfOk result (λ fine. IsGone (types_in lists.old) at behind.old
+    ensures behind { IfOk result (λ fine. IsGone (types_in lists.old.types) at behind.old
         (λ s. kinds.ways (body_of_parts parts.now) (type_at (types_in parts.now.types) result_type) (instruction_of (types_in parts.now.types) instruction.now) s.locals s.operands)
-        (types_in lists.new) behind.new fine) }
-    ensures grows { Grows (types_in lists.old) (types_in lists.new) }
+        (types_in lists.new.types) behind.new fine) }
+    ensures grows { Grows (types_in lists.old.types) (types_in lists.new.types) }
 {
     match instruction {
         Instruction::Switch(named, places) => switch(lists, parts, *named, places, at, behind),
@@ -54,14 +54,14 @@ pub fn lead_on(
 }
 
 /// Whether there is one operand alone, and it has the type of the result.
-fn is_returned(lists: &TyTable, result_type: TyId, operands: TyId) -> bool
-    requires result_type { result_type.0 < length (types_in lists.now) }
-    requires operands { operands.0 < length (types_in lists.now) }
-    ensures { (os : List Ty) → IsList (types_in lists.now) operands os → result ≡ is_return (type_at (types_in lists.now) result_type) os }
+fn is_returned(lists: &Lists, result_type: TyId, operands: TyId) -> bool
+    requires result_type { result_type.0 < length (types_in lists.now.types) }
+    requires operands { operands.0 < length (types_in lists.now.types) }
+    ensures { (os : List Ty) → IsList (types_in lists.now.types) operands os → result ≡ is_return (type_at (types_in lists.now.types) result_type) os }
 {
     match top_of(lists, operands) {
         Some(top) => {
-            top_of(lists, top.others).is_none() && lists.is_same(top.first, result_type)
+            top_of(lists, top.others).is_none() && lists.types.is_same(top.first, result_type)
         }
         None => false,
     }
@@ -69,14 +69,14 @@ fn is_returned(lists: &TyTable, result_type: TyId, operands: TyId) -> bool
 
 /// Goes both ways on from a branch, on the bool that is the top operand.
 fn fork(
-    lists: &mut TyTable,
+    lists: &mut Lists,
     passed: usize,
     at: Frame,
     behind: &mut [Known],
 ) -> Result<bool, AllocError>
-    requires at { IsAt (types_in lists.old) at }
-    ensures behind { (B : Body) (z : Ty) → IfOk result (λ fine. IsGone (types_in lists.old) at behind.old (λ s. kinds.ways B z (meant.Branch passed) s.locals s.operands) (types_in lists.new) behind.new fine) }
-    ensures grows { Grows (types_in lists.old) (types_in lists.new) }
+    requires at { IsAt (types_in lists.old.types) at }
+    ensures behind { (B : Body) (z : Ty) → IfOk result (λ fine. IsGone (types_in lists.old.types) at behind.old (λ s. kinds.ways B z (meant.Branch passed) s.locals s.operands) (types_in lists.new.types) behind.new fine) }
+    ensures grows { Grows (types_in lists.old.types) (types_in lists.new.types) }
 {
     let Some(operands) = without_plain(lists, TyForm::BoolForm, at.operands)? else {
         return Ok(false);
@@ -87,18 +87,18 @@ fn fork(
 
 /// Goes each way on from a switch, to the place of each constructor of the named type that the top operand has.
 fn switch(
-    lists: &mut TyTable,
+    lists: &mut Lists,
     parts: &Parts,
     named: NamedId,
     places: &[usize],
     at: Frame,
     behind: &mut [Known],
 ) -> Result<bool, AllocError>
-    requires table { Grows (types_in parts.now.types) (types_in lists.old) }
-    requires at { IsAt (types_in lists.old) at }
-    ensures behind { (z : Ty) → IfOk result (λ fine. IsGone (types_in lists.old) at behind.old
-        (λ s. kinds.ways (body_of_parts parts.now) z (meant.Switch named.0 places.now) s.locals s.operands) (types_in lists.new) behind.new fine) }
-    ensures grows { Grows (types_in lists.old) (types_in lists.new) }
+    requires table { Grows (types_in parts.now.types) (types_in lists.old.types) }
+    requires at { IsAt (types_in lists.old.types) at }
+    ensures behind { (z : Ty) → IfOk result (λ fine. IsGone (types_in lists.old.types) at behind.old
+        (λ s. kinds.ways (body_of_parts parts.now) z (meant.Switch named.0 places.now) s.locals s.operands) (types_in lists.new.types) behind.new fine) }
+    ensures grows { Grows (types_in lists.old.types) (types_in lists.new.types) }
 {
     let Some(operands) = without_plain(lists, TyForm::NamedForm(named), at.operands)? else {
         return Ok(false);
@@ -120,17 +120,17 @@ fn constructors_of(parts: &Parts, named: NamedId) -> &[Constructor]
 
 /// Goes to the place of each constructor, whose fields are the next locals. There is a place for each.
 fn arms(
-    lists: &mut TyTable,
+    lists: &mut Lists,
     constructors: &[Constructor],
     places: &[usize],
     at: Frame,
     behind: &mut [Known],
 ) -> Result<bool, AllocError>
-    requires at { IsAt (types_in lists.old) at }
-    requires fields { list_all (λ constructor. are_below (length (types_in lists.old)) constructor.fields.items) constructors.now ≡ true }
-    ensures behind { IfOk result (λ fine. IsGone (types_in lists.old) at behind.old
-        (λ s. kinds.ways_by_tag s.locals s.operands (map (λ constructor. types_at (types_in lists.old) constructor.fields.items) constructors.now) places.now) (types_in lists.new) behind.new fine) }
-    ensures grows { Grows (types_in lists.old) (types_in lists.new) }
+    requires at { IsAt (types_in lists.old.types) at }
+    requires fields { list_all (λ constructor. are_below (length (types_in lists.old.types)) constructor.fields.items) constructors.now ≡ true }
+    ensures behind { IfOk result (λ fine. IsGone (types_in lists.old.types) at behind.old
+        (λ s. kinds.ways_by_tag s.locals s.operands (map (λ constructor. types_at (types_in lists.old.types) constructor.fields.items) constructors.now) places.now) (types_in lists.new.types) behind.new fine) }
+    ensures grows { Grows (types_in lists.old.types) (types_in lists.new.types) }
 {
     if constructors.len() != places.len() {
         return Ok(false);

@@ -30,7 +30,7 @@ pub struct Parser<'a> {
 
 impl<'a> Parser<'a> {
     ghost use Rattle.std.specs.Prelude.{◌≡◌};
-    ghost use Rattle.lexemes.specs.Remaining.{read_end, read_if_lower, read_if_mark, remaining, Takes};
+    ghost use Rattle.lexemes.specs.Remaining.{read_end, read_if_lower, read_if_mark, remaining, TakesToken};
 
     /// The parser before a text of a format.
     pub fn new(alloc: Global, format: Format, text: &'a [u8]) -> Self
@@ -55,7 +55,7 @@ impl<'a> Parser<'a> {
 
     /// Takes the next token. Where none stands, the end or a lexical fault, that is the fault.
     pub fn token(&mut self) -> Result<PlacedToken<'a>, SyntaxFault>
-        ensures { Takes (remaining self.old) result (remaining self.new) }
+        ensures { TakesToken (remaining self.old) result (remaining self.new) }
     {
         match self.next()? {
             Lexeme::Token(at, token) => Ok(PlacedToken { at, token }),

@@ -19,8 +19,8 @@ lead_on-requires-clause-at c =
     let inside : place < length c.loop-place.known = omega (arith, c.loop-place-test.true, c.loop-place.auto.known, c.requires.length) in
     let there : slice_get c.loop-place.known place ≡ Some (Reached c.in-Reached.at) = slice_get-get_or c.loop-place.known place Unreached inside ∙ ap Some c.in-Reached.is in
     let now = c.loop-place.invariant.fault c.requires.known.0 c.requires.known.1 in
-    reached_within (types_in c.loop-place.lists) c.in-Reached.at (drop (place + 1) c.loop-place.known) now.0
-    (subst (λ known. AreKnown (types_in c.loop-place.lists) known now.0) (from_place c.loop-place.known place (Reached c.in-Reached.at) there) now.1)
+    reached_within (types_in c.loop-place.lists.types) c.in-Reached.at (drop (place + 1) c.loop-place.known) now.0
+    (subst (λ known. AreKnown (types_in c.loop-place.lists.types) known now.0) (from_place c.loop-place.known place (Reached c.in-Reached.at) there) now.1)
 
 pub loop-place-preserved : goal.loop-place-preserved
 loop-place-preserved c = record {
@@ -34,20 +34,20 @@ loop-place-preserved c = record {
       let there : slice_get c.loop-place.known place ≡ Some (Reached c.in-Reached.at) = slice_get-get_or c.loop-place.known place Unreached inside ∙ ap Some c.in-Reached.is in
       let code : slice_get c.args.code.now place ≡ Some i = slice_get-get_or c.args.code.now place i c.loop-place-test.true ∙ ap Some (sym c.index-code-place.is) in
       let now = c.loop-place.invariant.fault ks k in
-      let here = subst (λ known. AreKnown (types_in c.loop-place.lists) known now.0) (from_place c.loop-place.known place (Reached c.in-Reached.at) there) now.1 in
+      let here = subst (λ known. AreKnown (types_in c.loop-place.lists.types) known now.0) (from_place c.loop-place.known place (Reached c.in-Reached.at) there) now.1 in
       let gone =
-      subst (λ (fine : Bool). IsGone (types_in c.loop-place.lists) at (drop (place + 1) c.loop-place.known)
-      (λ s. ways (body_of_parts c.args.parts.now) z (instruction_of types i) s.locals s.operands) (types_in c.lead_on.new.lists) c.lead_on.new.behind fine) c.if-not-branch.false
+      subst (λ (fine : Bool). IsGone (types_in c.loop-place.lists.types) at (drop (place + 1) c.loop-place.known)
+      (λ s. ways (body_of_parts c.args.parts.now) z (instruction_of types i) s.locals s.operands) (types_in c.lead_on.new.lists.types) c.lead_on.new.behind fine) c.if-not-branch.false
       (rw (take_rest c.loop-place.known (place + 1)) at c.in_ok-lead_on.ensures.behind) in
       let later =
-      fault_later (body_of_parts c.args.parts.now) z (types_in c.loop-place.lists) (types_in c.lead_on.new.lists) (instruction_of types i) (instructions_of types (drop (place + 1) c.args.code.now))
+      fault_later (body_of_parts c.args.parts.now) z (types_in c.loop-place.lists.types) (types_in c.lead_on.new.lists.types) (instruction_of types i) (instructions_of types (drop (place + 1) c.args.code.now))
       place at (drop (place + 1) c.loop-place.known) c.lead_on.new.behind now.0 gone here in
       let written = after_part c.loop-place.known c.lead_on.new.behind (place + 1) (length c.loop-place.known - (place + 1)) (omega (arith, inside)) refl in (
         later.0,
-        subst (λ known. AreKnown (types_in c.lead_on.new.lists) known later.0) (sym written) later.1,
+        subst (λ known. AreKnown (types_in c.lead_on.new.lists.types) known later.0) (sym written) later.1,
         now.2
             ∙ ap (λ is. first_fault (body_of_parts c.args.parts.now) z (instructions_of types is) place now.0) (from_place c.args.code.now place i code)
             ∙ later.2,
       );
-  grows = grows_on (types_in c.args.lists.now) (types_in c.loop-place.lists) (types_in c.lead_on.new.lists) c.loop-place.invariant.grows c.in_ok-lead_on.ensures.grows;
+  grows = grows_on (types_in c.args.lists.now.types) (types_in c.loop-place.lists.types) (types_in c.lead_on.new.lists.types) c.loop-place.invariant.grows c.in_ok-lead_on.ensures.grows;
 }

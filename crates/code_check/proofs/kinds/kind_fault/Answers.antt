@@ -66,7 +66,7 @@ loop-number-preserved c = record {
       ∙ ap (kind_fault_from (body_of_parts parts) number) (from_place all number g (coded_at types parts.functions.items parts.code.items number c.function-item.result c.in-Some.code.now there code))
       ∙ spot_later (body_of_parts parts) number g (drop (number + 1) all) fault;
   table =
-      grows_on (types_in c.args.parts.now.types) (types_in c.loop-number.lists) (types_in c.function_fault.new.lists) c.loop-number.invariant.table c.in_ok-instruction.ensures.grows;
+      grows_on (types_in c.args.parts.now.types) (types_in c.loop-number.lists.types) (types_in c.function_fault.new.lists.types) c.loop-number.invariant.table c.in_ok-instruction.ensures.grows;
 }
 
 pub returns : goal.returns

@@ -11,5 +11,5 @@ abbrev pub invariant-loop-number : goal.invariant-loop-number
 invariant-loop-number l = record {
   fault : kinds.kind_fault (body_of_parts l.parts)
       ≡ kinds.kind_fault_from (body_of_parts l.parts) l.number (drop l.number (all_coded (types_in l.parts.types) l.parts.functions.items l.parts.code.items));
-  table : Grows (types_in l.parts.types) (types_in l.lists);
+  table : Grows (types_in l.parts.types) (types_in l.lists.types);
 }

@@ -10,10 +10,10 @@ taken_off-requires t c = (omega (arith, c.decreases, c.in-Some.ensures.others), 
 -- src/lib.rt:95:1
 pub returns-then-is_same-clause-left : goal.returns-then-is_same-clause-left
 returns-then-is_same-clause-left t c =
-    goes_on (types_in c.args.lists.now) c.args.takes c.args.operands c.in-Some.take c.in_ok-operand.operand c.taken_off.result c.in-Some.ensures.top c.in_ok-operand.ensures.top
+    goes_on (types_in c.args.lists.now.types) c.args.takes c.args.operands c.in-Some.take c.in_ok-operand.operand c.taken_off.result c.in-Some.ensures.top c.in_ok-operand.ensures.top
     (c.if-is_same.ensures.0 refl) c.taken_off.ensures.left
 
 -- src/lib.rt:95:1
 pub returns-else-is_same-clause-left : goal.returns-else-is_same-clause-left
 returns-else-is_same-clause-left t c =
-    ends (types_in c.args.lists.now) c.args.takes c.args.operands c.in-Some.take c.in_ok-operand.operand None c.in-Some.ensures.top c.in_ok-operand.ensures.top c.is_same.result c.is_same.ensures c.if-is_same.false
+    ends (types_in c.args.lists.now.types) c.args.takes c.args.operands c.in-Some.take c.in_ok-operand.operand None c.in-Some.ensures.top c.in_ok-operand.ensures.top c.is_same.result c.is_same.ensures c.if-is_same.false

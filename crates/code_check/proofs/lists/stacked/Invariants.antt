@@ -8,8 +8,8 @@ use Rattle.code_check.proofs.lists.stacked.Given as goal
 -- the types so far are stacked
 abbrev pub invariant-loop-ty : goal.invariant-loop-ty
 invariant-loop-ty l = record {
-  list : (ts : List Ty) → IsList (types_in l.fn.lists) l.fn.others ts → IsList (types_in l.lists) l.list (reverse (types_at (types_in l.fn.lists) (take l.ty-index l.types)) ++ ts);
-  within : l.list.0 < length (types_in l.lists);
-  grows : Grows (types_in l.fn.lists) (types_in l.lists);
-  longer : length (types_in l.fn.lists) ≤ length (types_in l.lists);
+  list : (ts : List Ty) → IsList (types_in l.fn.lists.types) l.fn.others ts → IsList (types_in l.lists.types) l.list (reverse (types_at (types_in l.fn.lists.types) (take l.ty-index l.types)) ++ ts);
+  within : l.list.0 < length (types_in l.lists.types);
+  grows : Grows (types_in l.fn.lists.types) (types_in l.lists.types);
+  longer : length (types_in l.fn.lists.types) ≤ length (types_in l.lists.types);
 }

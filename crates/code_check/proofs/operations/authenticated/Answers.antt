@@ -9,9 +9,9 @@ use Rattle.code_check.proofs.operations.authenticated.Goals as goal
 
 pub returns-clause-next : goal.returns-clause-next
 returns-clause-next c =
-    taken_later (types_in c.args.lists.now) (types_in c.interned.new.lists) (types_in c.behind_operands.new.lists) c.args.at c.behind_operands.result
-    (type_at (types_in c.interned.new.lists) c.args.ty ∷ []) (type_at (types_in c.args.lists.now) c.args.ty ∷ []) (type_at (types_in c.interned.new.lists) c.in_ok-auth.auth)
-    (AuthTy (type_at (types_in c.args.lists.now) c.args.ty)) c.in_ok-auth.ensures.grows
-    (ap (λ (t : Ty). t ∷ []) (type_stays (types_in c.args.lists.now) (types_in c.interned.new.lists) c.args.ty c.in_ok-auth.ensures.grows c.requires.ty))
-    (get_or_from_slice_get (types_in c.interned.new.lists) c.in_ok-auth.auth.0 (AuthTy (type_at (types_in c.args.lists.now) c.args.ty)) UnitTy c.in_ok-auth.ensures.ty)
+    taken_later (types_in c.args.lists.now.types) (types_in c.interned.new.lists.types) (types_in c.behind_operands.new.lists.types) c.args.at c.behind_operands.result
+    (type_at (types_in c.interned.new.lists.types) c.args.ty ∷ []) (type_at (types_in c.args.lists.now.types) c.args.ty ∷ []) (type_at (types_in c.interned.new.lists.types) c.in_ok-auth.auth)
+    (AuthTy (type_at (types_in c.args.lists.now.types) c.args.ty)) c.in_ok-auth.ensures.grows
+    (ap (λ (t : Ty). t ∷ []) (type_stays (types_in c.args.lists.now.types) (types_in c.interned.new.lists.types) c.args.ty c.in_ok-auth.ensures.grows c.requires.ty))
+    (get_or_from_slice_get (types_in c.interned.new.lists.types) c.in_ok-auth.auth.0 (AuthTy (type_at (types_in c.args.lists.now.types) c.args.ty)) UnitTy c.in_ok-auth.ensures.ty)
     c.behind_operands.ensures.next

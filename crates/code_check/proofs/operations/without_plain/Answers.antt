@@ -6,5 +6,5 @@ use Rattle.code_check.proofs.operations.without_plain.Goals as goal
 
 pub returns-clause-left : goal.returns-clause-left
 returns-clause-left c =
-    one_without (types_in c.args.lists.now) (types_in c.plain.new.lists) (types_in c.without.new.lists) c.in_ok-ty.ty (type_of_form [] c.args.form) c.args.operands c.without.result
+    one_without (types_in c.args.lists.now.types) (types_in c.plain.new.lists.types) (types_in c.without.new.lists.types) c.in_ok-ty.ty (type_of_form [] c.args.form) c.args.operands c.without.result
     c.in_ok-ty.ensures.grows c.in_ok-ty.ensures.ty c.without.ensures.left

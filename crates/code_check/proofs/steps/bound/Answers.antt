@@ -4,5 +4,5 @@ use Rattle.code_check.proofs.steps.bound.Goals as goal
 
 pub returns-clause-next : goal.returns-clause-next
 returns-clause-next c = λ B z s h.
-    bound_next B z (types_in c.args.lists.now) (types_in c.with_top.new.lists) c.args.at c.in-Some.top c.in_ok-locals.locals s c.in_ok-locals.ensures.grows h
+    bound_next B z (types_in c.args.lists.now.types) (types_in c.with_top.new.lists.types) c.args.at c.in-Some.top c.in_ok-locals.locals s c.in_ok-locals.ensures.grows h
     (c.in-Some.ensures.top s.operands h.1) c.in_ok-locals.ensures.list

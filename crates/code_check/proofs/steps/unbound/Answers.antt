@@ -8,8 +8,8 @@ use Rattle.code_check.proofs.steps.unbound.Goals as goal
 
 pub returns-in_err-locals : goal.returns-in_err-locals
 returns-in_err-locals c = λ B z s h.
-    subst (IsNext (types_in c.args.lists.now) (ways B z (meant.Unbind c.args.count) s.locals s.operands)) (sym c.from_residual.ensures)
-    (unbound_next B z (types_in c.args.lists.now) c.args.at c.args.count None c.in_err-locals.ensures.left s h)
+    subst (IsNext (types_in c.args.lists.now.types) (ways B z (meant.Unbind c.args.count) s.locals s.operands)) (sym c.from_residual.ensures)
+    (unbound_next B z (types_in c.args.lists.now.types) c.args.at c.args.count None c.in_err-locals.ensures.left s h)
 
 pub returns : goal.returns
-returns c = λ B z s h. unbound_next B z (types_in c.args.lists.now) c.args.at c.args.count (Some c.in_ok-locals.locals) c.in_ok-locals.ensures.left s h
+returns c = λ B z s h. unbound_next B z (types_in c.args.lists.now.types) c.args.at c.args.count (Some c.in_ok-locals.locals) c.in_ok-locals.ensures.left s h

@@ -9,13 +9,13 @@ use Rattle.code_check.proofs.ways.lead_on.Goals as goal
 
 pub returns-in-Switch-clause-behind : goal.returns-in-Switch-clause-behind
 returns-in-Switch-clause-behind c =
-    gone_as (body_of_parts c.args.parts.now) (type_at (types_in c.args.parts.now.types) c.args.result_type) (types_in c.args.parts.now.types) (types_in c.args.lists.now) (types_in c.switch.new.lists)
+    gone_as (body_of_parts c.args.parts.now) (type_at (types_in c.args.parts.now.types) c.args.result_type) (types_in c.args.parts.now.types) (types_in c.args.lists.now.types) (types_in c.switch.new.lists.types)
     c.args.at c.args.behind.now c.switch.new.behind _ _ c.switch.result c.in-Switch.is
     (rw c.deref.ensures.value at (c.switch.ensures.behind (type_at (types_in c.args.parts.now.types) c.args.result_type)))
 
 pub returns-in-Branch-clause-behind : goal.returns-in-Branch-clause-behind
 returns-in-Branch-clause-behind c =
-    gone_as (body_of_parts c.args.parts.now) (type_at (types_in c.args.parts.now.types) c.args.result_type) (types_in c.args.parts.now.types) (types_in c.args.lists.now) (types_in c.fork.new.lists)
+    gone_as (body_of_parts c.args.parts.now) (type_at (types_in c.args.parts.now.types) c.args.result_type) (types_in c.args.parts.now.types) (types_in c.args.lists.now.types) (types_in c.fork.new.lists.types)
     c.args.at c.args.behind.now c.fork.new.behind _ _ c.fork.result c.in-Branch.is
     (c.fork.ensures.behind (body_of_parts c.args.parts.now) (type_at (types_in c.args.parts.now.types) c.args.result_type))
 
@@ -27,7 +27,7 @@ returns-in-Some c =
     c.requires.instruction in
     record {
       behind =
-          stepped (types_in c.args.lists.now) (types_in c.step.new.lists) c.args.at c.in-Some.next c.args.behind.now c.reach-in-Some.new.behind
+          stepped (types_in c.args.lists.now.types) (types_in c.step.new.lists.types) c.args.at c.in-Some.next c.args.behind.now c.reach-in-Some.new.behind
           (λ s. ways (body_of_parts c.args.parts.now) (type_at (types_in c.args.parts.now.types) c.args.result_type) (instruction_of (types_in c.args.parts.now.types) c.args.instruction.now) s.locals s.operands)
           c.reach-in-Some.result c.in_ok-next-in_default.ensures.grows
           (rw c.in-Some.is at (c.in_ok-next-in_default.ensures.next (type_at (types_in c.args.parts.now.types) c.args.result_type) straight)) c.reach-in-Some.ensures;
