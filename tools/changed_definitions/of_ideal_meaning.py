@@ -460,22 +460,6 @@ CHANGES = {
             "on_state t (BadAt offset) argument f k bytes n recent = BadState offset",
             "on_state t (BadAt offset) argument f k bytes n recent = BadState 0",
         ),
-        (
-            "IsSplitAt: the pieces may be equal",
-            "IsSplitAt digest (a ∷ offered) (b ∷ honest) zero = (a ≢ b.bytes) × (digest b.ty a ≡ digest b.ty b.bytes)",
-            "IsSplitAt digest (a ∷ offered) (b ∷ honest) zero = digest b.ty a ≡ digest b.ty b.bytes",
-        ),
-        (
-            "IsSplitAt: of any digests",
-            "IsSplitAt digest (a ∷ offered) (b ∷ honest) zero = (a ≢ b.bytes) × (digest b.ty a ≡ digest b.ty b.bytes)",
-            "IsSplitAt digest (a ∷ offered) (b ∷ honest) zero = (a ≢ b.bytes) × (digest b.ty a ≡ digest b.ty a)",
-        ),
-        (
-            "IsSplitAt: behind any pieces",
-            "IsSplitAt digest (a ∷ offered) (b ∷ honest) (suc i) = (a ≡ b.bytes) × IsSplitAt digest offered honest i",
-            "IsSplitAt digest (a ∷ offered) (b ∷ honest) (suc i) = IsSplitAt digest offered honest i",
-        ),
-        ("IsSplitAt: where the pieces end", "IsSplitAt digest offered honest i = ⊥", "IsSplitAt digest offered honest i = Unit {0}"),
         ("digest_in: nothing", "digest_in (DigestV bytes) = bytes", "digest_in (DigestV bytes) = []"),
         (
             "verdict_on: the state at the argument's type",
@@ -524,6 +508,24 @@ CHANGES = {
             "auth = λ t v. DigestV (digest_at hash P t (spelling v));",
             "auth = λ t v. DigestV (hash (spelling v));",
         ),
+    ],
+    "SplitPieces": [
+        (
+            "IsSplitAt: the pieces may be equal",
+            "IsSplitAt digest (a ∷ offered) (b ∷ honest) zero = (a ≢ b.bytes) × (digest b.ty a ≡ digest b.ty b.bytes)",
+            "IsSplitAt digest (a ∷ offered) (b ∷ honest) zero = digest b.ty a ≡ digest b.ty b.bytes",
+        ),
+        (
+            "IsSplitAt: of any digests",
+            "IsSplitAt digest (a ∷ offered) (b ∷ honest) zero = (a ≢ b.bytes) × (digest b.ty a ≡ digest b.ty b.bytes)",
+            "IsSplitAt digest (a ∷ offered) (b ∷ honest) zero = (a ≢ b.bytes) × (digest b.ty a ≡ digest b.ty a)",
+        ),
+        (
+            "IsSplitAt: behind any pieces",
+            "IsSplitAt digest (a ∷ offered) (b ∷ honest) (suc i) = (a ≡ b.bytes) × IsSplitAt digest offered honest i",
+            "IsSplitAt digest (a ∷ offered) (b ∷ honest) (suc i) = IsSplitAt digest offered honest i",
+        ),
+        ("IsSplitAt: where the pieces end", "IsSplitAt digest offered honest i = ⊥", "IsSplitAt digest offered honest i = Unit {0}"),
     ],
     "Told": [
         ("cause_told: found comes before want", "WrongPiece place want.0 found.0", "WrongPiece place found.0 want.0"),

@@ -3,4 +3,4 @@ from by_clauses import changes_by_clause
 
 LEMMAS, CODE = {}, {}
 
-CHANGES = changes_by_clause("serve_links", ["ServedLinks", "Connections", "Messages", "Prompt", "Ends", "Histories", "LinkLaws"])
+CHANGES = changes_by_clause("serve_links", ["ServedLinks", "ServedLinksInCode", "Connections", "Messages", "Prompt", "Ends", "Histories", "HistoriesInCode", "LinkLaws"])

@@ -5,7 +5,8 @@ LEMMAS, CODE = {}, {}
 
 FILES = [
     "Isolation", "Exchange", "ClientLaws", "ServerLaws", "ReplyLaws", "MessageLaws", "Stopped", "Fates", "Connections",
-    "Tables", "Calls", "Causes", "Server", "Client", "Messages",
+    "Tables", "Calls", "Causes", "Server", "ServedHistories", "Client", "Waiting",
+    "Messages", "MessageFields", "Beginnings",
 ]
 
 CHANGES = changes_by_clause("session_meaning", FILES)
