@@ -30,7 +30,7 @@ pub mod Switching
 pub mod Branching
 pub mod Binding
 pub mod Constructing
--- act and act_rarely of a frame; State's act and next, enter
+-- act and act_rarely of a frame; State's act, fetch and next, enter
 pub mod OwnInstructions
 pub mod Lifting
 pub mod Entering

@@ -1,5 +1,5 @@
 -- Which instructions change the running frame alone, and which ask nothing of the mode; and a frame that stands before one.
-use Rattle.std.proofs.Common.{◌≡◌, true, false, List, refl, subst}
+use Rattle.std.proofs.Common.{◌≡◌, true, false, List, MatchOption, None, Option, Some, refl, subst}
 use Rattle.core_terms.specs.Terms.{Program}
 use Rattle.core_terms.specs.Types.{Ty}
 use Rattle.value_store.specs.Markings.{Marking}
@@ -12,6 +12,11 @@ use Rattle.core_terms.specs.declared.instruction.Instruction.TheVariants.{Call, 
 use Rattle.mode_vm.specs.Machines.{Before, ValueFrame, is_own, is_plain}
 use Rattle.mode_vm.specs.declared.frame.Frame.{Frame}
 use Rattle.mode_vm.specs.NodesPut.{works_in_hand}
+
+-- what is said of none, where there is none
+pub none_told : {A P : Type 0} (Q : A → Type 0) (o : Option A) → ((x : A) → o ≡ Some x → ⊥) → MatchOption o P Q → P
+none_told Q None never told = told
+none_told Q (Some x) never told = absurd (never x refl)
 
 -- what is no call and no return, and asks nothing of the mode, changes the running frame alone
 pub own : (types : List Ty) (i : Instruction) → ((f : FunctionId) → i ≡ Call f → ⊥) → (i ≡ Return → ⊥) → is_plain (instruction_of types i) ≡ true

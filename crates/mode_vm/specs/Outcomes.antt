@@ -1,5 +1,6 @@
 -- What a step of the machine leads to.
 use Rattle.std.specs.Prelude.{◌≡◌, ◌<◌, ℕ, Bool, List, Result, Ok, Err, Option, Some, None}
+use Rattle.std.specs.declared.alloc.AllocError.{AllocError}
 use Rattle.core_terms.specs.Types.{Ty}
 use Rattle.core_terms.specs.Values.{Value}
 use Rattle.core_terms.specs.Terms.{Program}
@@ -18,6 +19,8 @@ use Rattle.mode_vm.specs.Meanings.{StateOf}
 use Rattle.mode_vm.specs.Machines.{Before, ValueFrame, ValueStack, IsSameCall, stack_steps, IsTop, Represents, end_of, runs_on}
 use Rattle.mode_vm.specs.StateParts.{IsOver}
 use Rattle.mode_vm.specs.declared.frame.Frame.{Frame}
+use Rattle.mode_vm.specs.declared.frame.Rare.{Rare}
+use Rattle.mode_vm.specs.declared.frame.Rare.TheVariants as rare
 use Rattle.mode_vm.specs.declared.state.State.{State}
 use Rattle.mode_vm.specs.declared.state.Step.{Step}
 use Rattle.mode_vm.specs.declared.state.Step.TheVariants.{Paused, Ended}
@@ -55,6 +58,12 @@ module _ (m : Marking) (P : Program) (nodes : List Node) where
 abbrev pub step_told : Option Trap → Step
 step_told None = Paused
 step_told (Some trap) = Ended (Trapped trap)
+
+-- what a rare instruction comes to, as each other one tells it
+abbrev pub rare_told : Rare → Result (Option Trap) AllocError
+rare_told rare.Acted = Ok None
+rare_told (rare.Trapped trap) = Ok (Some trap)
+rare_told (rare.NoMemory e) = Err e
 
 -- the frame stands before this instruction, whatever the mode
 abbrev pub IsBefore : Program → List Node → Frame → Instruction → Type 0

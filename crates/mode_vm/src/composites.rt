@@ -77,7 +77,8 @@ impl Frame {
         self.finish(Ok(Operand::At(second)))
     }
 
-    /// Pushes a constructor value of as many operands as the constructor has fields, where it is within the limits.
+    /// Pushes a constructor value of as many operands as the constructor has fields, where it is within the limits. Their nodes are
+    /// written into the room for them.
     #[inline(always)]
     pub(crate) fn make<N: Nodes>(
         &mut self,
@@ -85,6 +86,7 @@ impl Frame {
         store: &mut N,
         named: NamedId,
         tag: Tag,
+        fields: &mut Vec<Ref>,
     ) -> Result<Option<Trap>, AllocError>
         requires before { IsBefore (program_of code.now) (N.nodes store.old) self.old (instruction.Make named.0 tag.0) }
         requires limit { HasLimit (program_of code.now) (N.lent store.old) }
@@ -94,9 +96,9 @@ impl Frame {
         ensures lent { N.lent store.new ≡ N.lent store.old }
     {
         let count = field_count(code.types(), named, tag);
-        let fields = place_all(store, self.operands.topmost(count))?;
+        place_all(store, self.operands.topmost(count), fields)?;
         self.operands.drop_last(count);
-        let made = new_constructor(store, named, tag, &fields)?;
+        let made = new_constructor(store, named, tag, &*fields)?;
         self.finish(made)
     }
 }

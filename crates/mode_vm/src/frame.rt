@@ -8,13 +8,14 @@ ghost use Rattle.core_terms.specs.GeneratedCode.{generated};
 ghost use Rattle.core_terms.specs.InstructionViews.{instruction_of};
 ghost use Rattle.code_gen.specs.Programs.{program_in};
 ghost use Rattle.mode_vm.specs.Meanings.{program_of};
+ghost use Rattle.mode_vm.specs.Outcomes.{rare_told};
 
 use crate::operand::Operand;
 use crate::stack::Stack;
 use code_gen::Code;
 use core_terms::{FunctionId, Instruction, Trap};
 use std::alloc::AllocError;
-use value_store::Nodes;
+use value_store::{Nodes, Ref};
 
 /// The function that runs: the place of its next instruction, its locals and its operands. The functions that wait have theirs below
 /// these on the same two stacks. Locals and operands have a stack each, since a local is bound under operands that are there already.
@@ -33,6 +34,25 @@ pub struct Waiting {
     pub(crate) place: usize,
     pub(crate) local_base: usize,
     pub(crate) operand_base: usize,
+}
+
+/// What a rare instruction comes to.
+enum Rare {
+    Acted,
+    Trapped(Trap),
+    NoMemory(AllocError),
+}
+
+/// What a rare instruction comes to, as each other instruction tells it.
+#[inline(always)]
+fn result_of(rare: Rare) -> Result<Option<Trap>, AllocError>
+    ensures { result ≡ rare_told rare }
+{
+    match rare {
+        Rare::Acted => Ok(None),
+        Rare::Trapped(trap) => Ok(Some(trap)),
+        Rare::NoMemory(error) => Err(error),
+    }
 }
 
 impl Frame {
@@ -149,7 +169,8 @@ impl Frame {
         }
     }
 
-    /// Does an instruction that changes the running frame alone: it goes on behind the instruction, or it traps.
+    /// Does an instruction that changes the running frame alone: it goes on behind the instruction, or it traps. It gets room for the
+    /// fields of a constructor value.
     // The machine calls it for each instruction, in each of its modes, so LLVM would not inline it by itself.
     #[inline(always)]
     pub(crate) fn act<N: Nodes>(
@@ -157,6 +178,7 @@ impl Frame {
         code: &Code,
         store: &mut N,
         instruction: &Instruction,
+        fields: &mut Vec<Ref>,
     ) -> Result<Option<Trap>, AllocError>
         requires before { IsBefore (program_of code.now) (N.nodes store.old) self.old (instruction_of (types_of (program_in code.now)) instruction.now) }
         requires limit { HasLimit (program_of code.now) (N.lent store.old) }
@@ -178,22 +200,41 @@ impl Frame {
             Instruction::Pair => self.pair(code, store),
             Instruction::Fst => self.first(code, store),
             Instruction::Snd => self.second(code, store),
-            Instruction::Make(named, tag) => self.make(code, store, *named, *tag),
+            Instruction::Make(named, tag) => self.make(code, store, *named, *tag, fields),
             Instruction::Switch(named, skips) => self.switch(code, store, *named, skips),
             Instruction::Branch(skip) => self.branch(code, store, *skip),
             Instruction::Jump(skip) => self.jump(code, store, *skip),
             Instruction::Arith(op) => self.arith(code, store, *op),
             Instruction::Compare(op) => self.compare(code, store, *op),
             Instruction::Not => self.not(code, store),
-            // The call gets a result of its own: LLVM keeps none in registers whose address a call takes, and then each frequent
-            // instruction would pay for the rare ones.
-            _ => Ok(self.act_rarely(code, store, instruction)?),
+            _ => result_of(self.act_apart(code, store, instruction)),
+        }
+    }
+
+    /// Does one of the rare instructions, by a call.
+    // Were it inlined, the code of the rare ones would stand among that of the frequent ones. What it gives back fits registers: a result
+    // in memory would be cleared before each instruction, so that each frequent one would pay for the rare ones.
+    #[inline(never)]
+    fn act_apart<N: Nodes>(&mut self, code: &Code, store: &mut N, instruction: &Instruction) -> Rare
+        requires before { IsBefore (program_of code.now) (N.nodes store.old) self.old (instruction_of (types_of (program_in code.now)) instruction.now) }
+        requires limit { HasLimit (program_of code.now) (N.lent store.old) }
+        requires rare { is_rare (instruction_of (types_of (program_in code.now)) instruction.now) ≡ true }
+        requires room { self.old.place + 1 < 2 ^ 64 }
+        requires length { length (code_at (generated (program_of code.now)) self.old.function.0).code < 2 ^ 64 }
+        ensures does { Does (program_of code.now) (instruction_of (types_of (program_in code.now)) instruction.now) (N.nodes store.old) (N.nodes store.new) self.old self.new (rare_told result) }
+        ensures in_hand { works_in_hand (instruction_of (types_of (program_in code.now)) instruction.now) ≡ true → N.nodes store.new ≡ N.nodes store.old }
+        ensures keeps { Keeps (N.nodes store.old) (N.nodes store.new) }
+        ensures lent { N.lent store.new ≡ N.lent store.old }
+    {
+        match self.act_rarely(code, store, instruction) {
+            Ok(None) => Rare::Acted,
+            Ok(Some(trap)) => Rare::Trapped(trap),
+            Err(error) => Rare::NoMemory(error),
         }
     }
 
     /// Does one of the rare instructions.
-    // Were it inlined, the code of the rare ones would stand among that of the frequent ones.
-    #[inline(never)]
+    #[inline(always)]
     fn act_rarely<N: Nodes>(
         &mut self,
         code: &Code,

@@ -1,5 +1,5 @@
 // The virtual machine, over a mode.
-ghost use Rattle.std.specs.Prelude.{◌≡◌, ◌++◌, ◌<◌, ◌≤◌, ◌+◌, ◌^◌, List, suc, true, IfOk, OnOk, length};
+ghost use Rattle.std.specs.Prelude.{◌≡◌, ◌++◌, ◌<◌, ◌≤◌, ◌+◌, ◌^◌, List, suc, true, MatchOption, IfOk, OnOk, length};
 ghost use Rattle.core_terms.specs.Programs.{types_of};
 ghost use Rattle.core_terms.specs.Types.{Ty};
 ghost use Rattle.core_terms.specs.Values.{Values};
@@ -9,7 +9,10 @@ ghost use Rattle.value_store.specs.Markings.{HasLimit};
 ghost use Rattle.value_store.specs.Nodes.{Node};
 ghost use Rattle.value_store.specs.Standing.{Keeps};
 ghost use Rattle.code_gen.specs.Programs.{program_in};
-ghost use Rattle.core_terms.specs.InstructionViews.{instruction_of};
+ghost use Rattle.core_terms.specs.Bodies.{code_at};
+ghost use Rattle.core_terms.specs.GeneratedCode.{generated};
+ghost use Rattle.core_terms.specs.InstructionViews.{instruction_of, instructions_of};
+ghost use Rattle.core_terms.specs.declared.instruction.Instruction.TheVariants.{Auth, Unauth};
 ghost use Rattle.mode_vm.specs.Meanings.{RunOf, StateOf, mode_of, program_of};
 
 use crate::mode::{Mode, Stop};
@@ -25,6 +28,8 @@ use value_store::{Nodes, Ref};
 pub struct Machine<M> {
     mode: M,
     state: State,
+    /// Room for the nodes of the fields of the next constructor value.
+    fields: Vec<Ref>,
 }
 
 impl<M: Mode> Machine<M> {
@@ -61,7 +66,12 @@ impl<M: Mode> Machine<M> {
         ensures few { IfOk result (λ machine. OpensFew (M.opened machine.mode) (program_of code.now) machine.state) }
     {
         let state = State::start(function, args, fuel, alloc)?;
-        Ok(Machine { mode, state })
+        let fields = Vec::new(alloc);
+        Ok(Machine {
+            mode,
+            state,
+            fields,
+        })
     }
 
     /// Authenticates the top operand, by the mode.
@@ -145,14 +155,18 @@ impl<M: Mode> Machine<M> {
         Ok(Step::Paused)
     }
 
-    /// Does one instruction, or enters a function that is called.
-    fn step<N: Nodes>(
+    /// Does one instruction, or enters a function that is called. It finds the instruction among those of a function that are held, and
+    /// then holds those of the function that runs.
+    fn step<'a, N: Nodes>(
         &mut self,
-        code: &Code,
+        code: &'a Code,
         store: &mut N,
         world: &mut M::World,
+        function: &mut FunctionId,
+        instructions: &mut &'a [Instruction],
     ) -> Result<Step, Stop<M::Fault>>
         requires ready { (z : Ty) × Ready M.marking (program_of code.now) z (N.nodes store.old) self.old.state }
+        requires held { instructions_of (types_of (program_in code.now)) instructions.old.now ≡ (code_at (generated (program_of code.now)) function.old.0).code }
         requires few { M.opened self.old.mode < 2 ^ 63 }
         requires knows { M.Knows (program_in code.now).types self.old.mode (N.nodes store.old) }
         requires limit { HasLimit (program_of code.now) (N.lent store.old) }
@@ -168,6 +182,7 @@ impl<M: Mode> Machine<M> {
         ensures keeps { Keeps (N.nodes store.old) (N.nodes store.new) }
         ensures lent { N.lent store.new ≡ N.lent store.old }
         ensures in_hand { NextInHand (program_of code.now) self.old.state → StepPuts (N.nodes store.old) (N.nodes store.new) result }
+        ensures held { instructions_of (types_of (program_in code.now)) instructions.new.now ≡ (code_at (generated (program_of code.now)) function.new.0).code }
         ensures opened { M.opened self.new.mode ≤ suc (M.opened self.old.mode) }
         ensures fuel { OnOk result (self.new.state.fuel ≡ fuel_after self.old.state.entered self.old.state.fuel) }
         ensures faults { Counts M.cause M.Rose (M.faults world.old) (M.faults world.new) result }
@@ -178,12 +193,16 @@ impl<M: Mode> Machine<M> {
         if !self.state.entered {
             return Ok(self.state.enter());
         }
-        let instruction = self.state.next(code);
-        match instruction {
-            Instruction::Auth(ty) => self.auth(code, store, world, *ty),
-            Instruction::Unauth(ty) => self.unauth(code, store, world, *ty),
-            _ => Ok(self.state.act(code, store, instruction)?),
+        *instructions = self.state.fetch(code, *function, *instructions);
+        *function = self.state.running();
+        let instruction = self.state.next(code, *instructions);
+        if let Some(ty) = authenticated(instruction) {
+            return self.auth(code, store, world, ty);
         }
+        if let Some(ty) = opened(instruction) {
+            return self.unauth(code, store, world, ty);
+        }
+        Ok(self.state.act(code, store, instruction, &mut self.fields)?)
     }
 
     /// Runs until a further call is due when `units` calls of functions, 1 at least, were made in this slice and fuel is left, and there
@@ -224,11 +243,13 @@ impl<M: Mode> Machine<M> {
         ensures knows { OnOk result (M.Knows (program_in code.now).types self.new.mode (N.nodes store.new)) }
     {
         let start = self.state.fuel;
+        let mut function = self.state.running();
+        let mut instructions = code.instructions(function);
         loop {
             if self.state.is_spent(start, units) {
                 return Ok(Step::Paused);
             }
-            match self.step(code, store, world) {
+            match self.step(code, store, world, &mut function, &mut instructions) {
                 Ok(Step::Paused) => {}
                 Ok(Step::Ended(outcome)) => return Ok(Step::Ended(outcome)),
                 Err(stop) => return Err(stop),
@@ -277,8 +298,36 @@ impl<M: Mode> Machine<M> {
     pub fn into_mode(self) -> M
         ensures { result ≡ self.mode }
     {
-        let Machine { mode, state } = self;
+        let Machine {
+            mode,
+            state,
+            fields,
+        } = self;
         drop(state);
+        drop(fields);
         mode
+    }
+}
+
+// One instruction is told from all others by each of these, and not by a match of several arms: LLVM makes one jump of the tests that
+// follow one another and of the match behind them.
+
+/// The type whose value an instruction authenticates.
+fn authenticated(instruction: &Instruction) -> Option<TyId>
+    ensures { MatchOption result ((ty : TyId) → instruction.now ≡ Auth ty → ⊥) (λ ty. instruction.now ≡ Auth ty) }
+{
+    match instruction {
+        Instruction::Auth(ty) => Some(*ty),
+        _ => None,
+    }
+}
+
+/// The type whose value an instruction opens.
+fn opened(instruction: &Instruction) -> Option<TyId>
+    ensures { MatchOption result ((ty : TyId) → instruction.now ≡ Unauth ty → ⊥) (λ ty. instruction.now ≡ Unauth ty) }
+{
+    match instruction {
+        Instruction::Unauth(ty) => Some(*ty),
+        _ => None,
     }
 }

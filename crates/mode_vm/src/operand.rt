@@ -1,5 +1,5 @@
 // What an instruction works on: a scalar itself, or the node of a value.
-ghost use Rattle.std.specs.Prelude.{◌≡◌, ◌≤◌, ◌+◌, List, IfOk, OnErr, length};
+ghost use Rattle.std.specs.Prelude.{◌≡◌, ◌≤◌, ◌+◌, List, IfOk, OnOk, OnErr, length};
 ghost use Rattle.core_terms.specs.Types.{Table, Ty};
 ghost use Rattle.core_terms.specs.Values.{Value, Values};
 ghost use Rattle.value_store.specs.CodeNodes.{numbers_of};
@@ -49,21 +49,22 @@ pub(crate) fn node_in(operand: Operand) -> Ref
     }
 }
 
-/// Nodes for some operands.
+/// Nodes for some operands, in the place of what was there.
 #[inline(always)]
 pub(crate) fn place_all<N: Nodes>(
     store: &mut N,
     operands: &[Operand],
-) -> Result<Vec<Ref>, AllocError>
+    placed: &mut Vec<Ref>,
+) -> Result<(), AllocError>
     ensures stand { (kind : Kind) (types : Table) (ts : List Ty) (vs : Values) → AllHeld kind types (N.nodes store.old) operands.now ts vs
-        → IfOk result (λ placed. AllStandFor kind types (N.nodes store.new) (numbers_of placed.items) ts vs) }
+        → OnOk result (AllStandFor kind types (N.nodes store.new) (numbers_of placed.new.items) ts vs) }
     ensures keeps { Keeps (N.nodes store.old) (N.nodes store.new) }
     ensures lent { N.lent store.new ≡ N.lent store.old }
 {
-    let mut placed = Vec::with_capacity(store.alloc(), operands.len())?;
+    placed.clear();
     for operand in operands {
         let r = place(store, *operand)?;
         placed.push(r)?;
     }
-    Ok(placed)
+    Ok(())
 }

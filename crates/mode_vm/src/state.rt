@@ -1,5 +1,5 @@
 // The state of a machine: the frames and the fuel, calls and returns.
-ghost use Rattle.std.specs.Prelude.{◌≡◌, ◌+◌, ◌<◌, ◌^◌, ◌++◌, ◌∷◌, [], ◌-◌, ◌≢◌, ◌≤◌, true, false, IsTrue, MatchBool, Ok, List, IfOk, OnOk, Some, length, slice_get};
+ghost use Rattle.std.specs.Prelude.{◌≡◌, ◌+◌, ◌<◌, ◌^◌, ◌++◌, ◌∷◌, [], ◌-◌, ◌≢◌, ◌≤◌, true, false, IsTrue, MatchBool, MatchOption, Ok, List, IfOk, OnOk, Some, length, slice_get};
 ghost use Rattle.core_terms.specs.Programs.{types_of};
 ghost use Rattle.core_terms.specs.Terms.{Program as Meant};
 ghost use Rattle.core_terms.specs.Types.{Ty};
@@ -11,7 +11,8 @@ ghost use Rattle.code_gen.specs.Programs.{program_in};
 ghost use Rattle.core_terms.specs.Bodies.{code_at};
 ghost use Rattle.core_terms.specs.GeneratedCode.{generated};
 ghost use Rattle.core_terms.specs.Instructions as instruction;
-ghost use Rattle.core_terms.specs.InstructionViews.{instruction_of};
+ghost use Rattle.core_terms.specs.declared.instruction.Instruction.TheVariants.{Call, Return};
+ghost use Rattle.core_terms.specs.InstructionViews.{instruction_of, instructions_of};
 ghost use Rattle.mode_vm.specs.Machines.{GivesBack};
 ghost use Rattle.mode_vm.specs.Meanings.{program_of};
 ghost use Rattle.mode_vm.specs.Outcomes.{step_told};
@@ -193,9 +194,35 @@ impl State {
         self.top.push(r)
     }
 
-    /// The next instruction.
-    pub(crate) fn next<'a>(&self, code: &'a Code) -> &'a Instruction
-        requires { (m : Marking) × (z : Ty) × (nodes : List Node) × (cs : ValueStack) × Represents m (program_of code.now) z nodes self.now cs }
+    /// The function that runs.
+    pub(crate) fn running(&self) -> FunctionId
+        ensures { result ≡ self.now.top.function }
+    {
+        self.top.function
+    }
+
+    /// The instructions of the function that runs: these, where they are its.
+    // They are seldom another function's, and to ask the code for them takes more loads than to compare.
+    pub(crate) fn fetch<'a>(
+        &self,
+        code: &'a Code,
+        function: FunctionId,
+        held: &'a [Instruction],
+    ) -> &'a [Instruction]
+        requires shows { (m : Marking) × (z : Ty) × (nodes : List Node) × (cs : ValueStack) × Represents m (program_of code.now) z nodes self.now cs }
+        requires held { instructions_of (types_of (program_in code.now)) held.now ≡ (code_at (generated (program_of code.now)) function.0).code }
+        ensures { instructions_of (types_of (program_in code.now)) result.now ≡ (code_at (generated (program_of code.now)) self.now.top.function.0).code }
+    {
+        if self.top.function.0 == function.0 {
+            return held;
+        }
+        code.instructions(self.top.function)
+    }
+
+    /// The next instruction, among those of the function that runs.
+    pub(crate) fn next<'a>(&self, code: &Code, instructions: &'a [Instruction]) -> &'a Instruction
+        requires shows { (m : Marking) × (z : Ty) × (nodes : List Node) × (cs : ValueStack) × Represents m (program_of code.now) z nodes self.now cs }
+        requires held { instructions_of (types_of (program_in code.now)) instructions.now ≡ (code_at (generated (program_of code.now)) self.now.top.function.0).code }
         ensures next { (m : Marking) (z : Ty) (nodes : List Node) (cs : ValueStack) → Represents m (program_of code.now) z nodes self.now cs
             → IsNext (instruction_of (types_of (program_in code.now)) result.now) cs.top }
         ensures at { slice_get (code_at (generated (program_of code.now)) self.now.top.function.0).code self.now.top.place
@@ -203,11 +230,10 @@ impl State {
         ensures room { self.now.top.place + 1 < 2 ^ 64 }
         ensures length { length (code_at (generated (program_of code.now)) self.now.top.function.0).code < 2 ^ 64 }
     {
-        let instructions = code.instructions(self.top.function);
         &instructions[self.top.place]
     }
 
-    /// Does an instruction that asks nothing of the mode.
+    /// Does an instruction that asks nothing of the mode. It gets room for the fields of a constructor value.
     // The machine calls it for each instruction, in each of its modes, so LLVM would not inline it by itself.
     #[inline(always)]
     pub(crate) fn act<N: Nodes>(
@@ -215,6 +241,7 @@ impl State {
         code: &Code,
         store: &mut N,
         instruction: &Instruction,
+        fields: &mut Vec<Ref>,
     ) -> Result<Step, AllocError>
         requires before { (m : Marking) × (z : Ty) × (cs : ValueStack) × Represents m (program_of code.now) z (N.nodes store.old) self.old cs
             × IsNext (instruction_of (types_of (program_in code.now)) instruction.now) cs.top }
@@ -231,16 +258,16 @@ impl State {
         ensures keeps { Keeps (N.nodes store.old) (N.nodes store.new) }
         ensures lent { N.lent store.new ≡ N.lent store.old }
     {
-        match instruction {
-            // Each of these calls gets a result of its own: LLVM keeps none in registers whose address a call takes, and then each other
-            // instruction would pay for it.
-            Instruction::Call(callee) => Ok(self.call(code, *callee)?),
-            Instruction::Return => Ok(self.give_back(code, store)?),
-            _ => {
-                let trapped = self.top.act(code, store, instruction)?;
-                Ok(step_of(trapped))
-            }
+        // Each of these calls gets a result of its own: LLVM keeps none in registers whose address a call takes, and then each other
+        // instruction would pay for it.
+        if let Some(callee) = called(instruction) {
+            return Ok(self.call(code, callee)?);
         }
+        if returns(instruction) {
+            return Ok(self.give_back(code, store)?);
+        }
+        let trapped = self.top.act(code, store, instruction, fields)?;
+        Ok(step_of(trapped))
     }
 }
 
@@ -292,4 +319,23 @@ fn parameter_count(code: &Code, function: FunctionId) -> usize
     ensures { result ≡ length (code_at (generated (program_of code.now)) function.0).parameters }
 {
     code.program().function(function).parameters.len()
+}
+
+// As with `authenticated`, one instruction is told from all others by each of these.
+
+/// The function that an instruction calls.
+fn called(instruction: &Instruction) -> Option<FunctionId>
+    ensures { MatchOption result ((callee : FunctionId) → instruction.now ≡ Call callee → ⊥) (λ callee. instruction.now ≡ Call callee) }
+{
+    match instruction {
+        Instruction::Call(callee) => Some(*callee),
+        _ => None,
+    }
+}
+
+/// Whether an instruction returns.
+fn returns(instruction: &Instruction) -> bool
+    ensures { MatchBool result (instruction.now ≡ Return) (instruction.now ≡ Return → ⊥) }
+{
+    matches!(instruction, Instruction::Return)
 }

@@ -54,12 +54,13 @@ impl FrameWriter {
             → OnOk result (HasWritten n recent (pieces ++ piece.items ∷ []) self.new) }
         ensures count { OnOk result (self.new.fresh + self.new.again ≡ suc (self.old.fresh + self.old.again)) }
     {
-        match self.ring.place_of(&piece) {
+        let bucket = self.ring.bucket(&piece);
+        match self.ring.place_in(bucket, &piece) {
             None => {
                 put_new(&mut self.bytes, &piece)?;
-                let oldest = self.ring.push(piece);
+                let unused = self.ring.push_in(bucket, piece);
                 self.fresh += 1;
-                Ok(oldest)
+                Ok(unused)
             }
             Some(k) => {
                 put_use(&mut self.bytes, k)?;

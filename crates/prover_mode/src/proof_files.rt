@@ -21,7 +21,7 @@ use crate::proving::{Proved, prove};
 use code_gen::Code;
 use core_terms::{FunctionId, Hash32, Types};
 use proof_stream::put_header;
-use reuse_buffer::Ring;
+use reuse_buffer::SpareRing;
 use std::alloc::{AllocError, Global};
 use value_store::{Nodes, Ref};
 
@@ -65,10 +65,55 @@ pub fn prove_file<H: Hash32, N: Nodes>(
     ensures keeps { Keeps (N.nodes store.old) (N.nodes store.new) }
     ensures lent { N.lent store.new ≡ N.lent store.old }
 {
-    let ring = Ring::with_size(alloc, size)?;
+    let mut spare = SpareRing::new();
+    prove_file_reusing::<H, N>(
+        alloc, code, store, role, state, argument, fuel, size, &mut spare,
+    )
+}
+
+/// Proves a call as [`prove_file`] does, with the memory of a spare ring, which is kept again behind the call.
+///
+/// # Errors
+///
+/// Those of [`prove_file`]. Whether a ring is kept then isn't told.
+pub fn prove_file_reusing<H: Hash32, N: Nodes>(
+    alloc: Global,
+    code: &Code,
+    store: &mut N,
+    role: FunctionId,
+    state: Ref,
+    argument: Ref,
+    fuel: u64,
+    size: u16,
+    spare: &mut SpareRing,
+) -> Result<(Proved, Vec<u8>), AllocError>
+    requires there { role.0 < length (program_of code.now).functions }
+    requires role { TakesState (program_of code.now) role.0 }
+    requires called { (s : Value) × (a : Value) × IsCalledOn H.hash (program_of code.now) role.0 (N.nodes store.old) state argument s a }
+    requires limit { HasLimit (program_of code.now) (N.lent store.old) }
+    requires fuel_fits { fuel ≤ 10 ^ 12 }
+    requires size { size ≤ (program_of code.now).format.most_kept }
+    ensures value { let P = program_of code.now in IfOk result (λ told. (s a : Value) → IsCalledOn H.hash P role.0 (N.nodes store.old) state argument s a
+        → IsOutcome (ProverNodes (digest_at H.hash P)) P.types (N.nodes store.new) (function_at P role.0).result told.0.value (ideal.outcome (ideal.ideal P role.0 (call_values s a) fuel))) }
+    ensures outcome { let P = program_of code.now in IfOk result (λ told. (s a : Value) → IsCalledOn H.hash P role.0 (N.nodes store.old) state argument s a
+        → SpellsOutcome P (function_at P role.0).result (ideal.outcome_projection H.hash P (function_at P role.0).result (ideal.outcome (ideal.ideal P role.0 (call_values s a) fuel))) told.0.outcome) }
+    ensures frames { let P = program_of code.now in IfOk result (λ told. (s a : Value) → IsCalledOn H.hash P role.0 (N.nodes store.old) state argument s a
+        → told.0.frames.items ≡ frame_bytes (run_frames H.hash P role.0 (call_values s a) fuel size [])) }
+    ensures fresh { let P = program_of code.now in IfOk result (λ told. (s a : Value) → IsCalledOn H.hash P role.0 (N.nodes store.old) state argument s a
+        → told.0.fresh ≡ fresh_in (run_frames H.hash P role.0 (call_values s a) fuel size [])) }
+    ensures again { let P = program_of code.now in IfOk result (λ told. (s a : Value) → IsCalledOn H.hash P role.0 (N.nodes store.old) state argument s a
+        → told.0.again ≡ again_in (run_frames H.hash P role.0 (call_values s a) fuel size [])) }
+    ensures file { let P = program_of code.now in IfOk result (λ told. (s a : Value) → IsCalledOn H.hash P role.0 (N.nodes store.old) state argument s a
+        → told.1.items ≡ proof_file P.format size (ideal.bytes_of (ideal.honest_pieces H.hash P role.0 (call_values s a) fuel))) }
+    ensures accepted { let P = program_of code.now in IfOk result (λ told. (s a : Value) → IsCalledOn H.hash P role.0 (N.nodes store.old) state argument s a
+        → IsAccepted H.hash P role.0 s a fuel told.1.items) }
+    ensures keeps { Keeps (N.nodes store.old) (N.nodes store.new) }
+    ensures lent { N.lent store.new ≡ N.lent store.old }
+{
+    let ring = spare.take(alloc, size)?;
     let proof = prove::<H, N>(alloc, code, store, role, state, argument, fuel, ring)?;
     let (proved, ring) = proof;
-    drop(ring);
+    spare.keep(ring);
     let file = behind_header(alloc, code.types(), size, &proved.frames)?;
     Ok((proved, file))
 }

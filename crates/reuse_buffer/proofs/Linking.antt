@@ -1,9 +1,9 @@
 -- Pieces that lead to the next ones of their buckets.
-use Rattle.std.proofs.Common.{◌≡◌, ◌≢◌, inl, inr, ℕ, zero, suc, ◌+◌, ◌-◌, ◌<◌, ◌≤◌, List, [], ◌∷◌, length, take, Some, slice_get, slice_index, set, refl, sym, ap, subst, ◌∙◌, arith, length-set, length-take, zero-add, get_or-set_same, get_or-set_other}
+use Rattle.std.proofs.Common.{◌≡◌, ◌≢◌, inl, inr, ℕ, zero, suc, ◌+◌, ◌-◌, ◌<◌, ◌≤◌, List, [], ◌∷◌, length, take, min, Some, slice_get, slice_index, set, refl, sym, ap, subst, ◌∙◌, arith, length-set, length-take, take-take, take_all, le_refl, zero-add, get_or-set_same, get_or-set_other}
 use Rattle.std.proofs.lemmas.Bool.{cases_eq, cases_lt}
 use Rattle.std.proofs.lemmas.Option.{slice_get_within}
 use Rattle.reuse_buffer.specs.declared.held_piece.HeldPiece.{HeldPiece}
-use Rattle.reuse_buffer.specs.Index.{AreLinked, AreNewest, IsFirstOf, IsIndex, LeadsTo, bucket_of, buckets_in, bytes_in, next_turn, place_at}
+use Rattle.reuse_buffer.specs.Index.{AreHeld, AreLinked, AreNewest, HasRoom, IsFirstOf, IsIndex, LeadsTo, bucket_of, buckets_in, bytes_in, next_turn, place_at}
 use Rattle.reuse_buffer.specs.Kept.{Kept, kept, kept_as}
 use Rattle.reuse_buffer.proofs.Places.{front_within, in_front, kept_again, none_past, of_front}
 use Rattle.reuse_buffer.proofs.Turning.{last_place, next_within, oldest_place, other_place}
@@ -22,7 +22,7 @@ count_buckets : (ps : List HeldPiece) → length (buckets_in ps) ≡ length ps
 count_buckets [] = refl
 count_buckets (p ∷ ps) = ap suc (count_buckets ps)
 
-count_bytes : (ps : List HeldPiece) → length (bytes_in ps) ≡ length ps
+pub count_bytes : (ps : List HeldPiece) → length (bytes_in ps) ≡ length ps
 count_bytes [] = refl
 count_bytes (p ∷ ps) = ap suc (count_bytes ps)
 
@@ -46,7 +46,7 @@ first_in_front n bucket place buckets first = record {
   before = λ k h e. first.before k h (in_front n k bucket buckets e);
 }
 
-pub linked_front : (count n : ℕ) (ps : List HeldPiece) → AreLinked count ps → AreLinked count (take n ps)
+linked_front : (count n : ℕ) (ps : List HeldPiece) → AreLinked count ps → AreLinked count (take n ps)
 linked_front count zero ps linked = tt
 linked_front count (suc n) [] linked = tt
 linked_front count (suc n) (p ∷ ps) linked = (
@@ -147,11 +147,32 @@ all_passed bucket place bytes ps come past k =
       | inr later ↦ none_past k bytes (bytes_in ps) (omega (arith, later, past, count_bytes ps))
     ]
 
--- what a contract sees of the pieces, where one more is pushed
-pub seen : (size : ℕ) (held : HeldPiece) (ps : List HeldPiece) (old : Kept) → kept_as (bytes_in ps) size ≡ old
-    → kept_as (bytes_in (take size (held ∷ ps))) size ≡ kept old.size (held.bytes.items ∷ old.pieces)
-seen size held ps old e =
-    ap (λ ps. kept_as ps size) (sym (bytes_front size (held ∷ ps))) ∙ ap (λ (old : Kept). kept old.size (held.bytes.items ∷ old.pieces)) e
+-- what is held of the pieces, where n of them were and one more is pushed
+pub still_held : (size n k : ℕ) (held : HeldPiece) (ps : List HeldPiece) → k ≡ min size (n + 1) → take k (take size (held ∷ ps)) ≡ take size (held ∷ take n ps)
+still_held size n k held ps e =
+    elim (cases_lt size (suc n)) [
+      | inl full ↦
+          let is : k ≡ size = omega (arith, e, full) in
+          ap (λ k. take k (take size (held ∷ ps))) is ∙ take-take size size (held ∷ ps) (le_refl size) ∙ sym (take-take size (suc n) (held ∷ ps) (omega (arith, full)))
+      | inr room ↦
+          let is : k ≡ suc n = omega (arith, e, room) in
+          let all : length (take (suc n) (held ∷ ps)) ≤ size = omega (arith, length-take (suc n) (held ∷ ps), room) in
+          ap (λ k. take k (take size (held ∷ ps))) is ∙ take-take (suc n) size (held ∷ ps) room ∙ sym (take_all size (take (suc n) (held ∷ ps)) all)
+    ]
+
+-- what a contract sees of them
+pub seen : (size n k : ℕ) (held : HeldPiece) (ps : List HeldPiece) (old : Kept) → k ≡ min size (n + 1) → kept_as (bytes_in (take n ps)) size ≡ old
+    → kept_as (bytes_in (take k (take size (held ∷ ps)))) size ≡ kept old.size (held.bytes.items ∷ old.pieces)
+seen size n k held ps old is e =
+    ap (λ ps. kept_as (bytes_in ps) size) (still_held size n k held ps is)
+    ∙ ap (λ ps. kept_as ps size) (sym (bytes_front size (held ∷ take n ps))) ∙ ap (λ (old : Kept). kept old.size (held.bytes.items ∷ old.pieces)) e
+
+-- so many pieces are there
+pub held_behind : (size n k : ℕ) (held : HeldPiece) (ps : List HeldPiece) → k ≡ min size (n + 1) → AreHeld size n ps → AreHeld size k (take size (held ∷ ps))
+held_behind size n k held ps is h = record {
+  there = omega (arith, is, h.there, length-take size (held ∷ ps));
+  within = omega (arith, is);
+}
 
 pub seen_last : (old : Kept) (bytes : List ℕ) (recent : List (List ℕ)) → old ≡ kept old.size recent → kept old.size (bytes ∷ old.pieces) ≡ kept old.size (bytes ∷ recent)
 seen_last old bytes recent e =
@@ -226,13 +247,16 @@ module _ (count now : ℕ) (newest : List ℕ) (held : HeldPiece) (ps : List Hel
     first = subst (AreNewest count turn (set newest held.bucket turn)) (buckets_front count (held ∷ ps)) first_of_each;
   }
 
--- a ring that holds nothing
-pub none_held : (count now : ℕ) (newest : List ℕ) → count ≤ 1024 → length newest ≡ count → (0 < count → now < count) → ((bucket : ℕ) → bucket < count → slice_index newest bucket < count)
-    → IsIndex count now newest []
-none_held count now newest small each within turn = record {
-  small = small;
-  each = each;
-  within = within;
+-- the room of an index
+pub room_of : (count now : ℕ) (newest : List ℕ) (ps : List HeldPiece) → IsIndex count now newest ps → HasRoom count now newest
+room_of count now newest ps index = record { small = index.small; each = index.each; within = index.within; turn = index.first.turn }
+
+-- the index of a ring that holds nothing
+pub none_held : (count now : ℕ) (newest : List ℕ) → HasRoom count now newest → IsIndex count now newest []
+none_held count now newest room = record {
+  small = room.small;
+  each = room.each;
+  within = room.within;
   linked = tt;
-  first = record { turn = turn; leads = λ bucket b k e. absurd (cc) };
+  first = record { turn = room.turn; leads = λ bucket b k e. absurd (cc) };
 }

@@ -1,5 +1,6 @@
 -- Items of a list by their places.
-use Rattle.std.proofs.Common.{◌≡◌, ◌≢◌, ℕ, zero, suc, ◌<◌, ◌≤◌, Bool, true, false, List, [], ◌∷◌, length, take, Some, None, option_map, slice_get, bytes_eq, if◌then◌else◌, refl, ap, arith}
+use Rattle.std.proofs.Common.{◌≡◌, ◌≢◌, inl, inr, ℕ, zero, suc, ◌+◌, ◌<◌, ◌≤◌, Bool, true, false, List, [], ◌∷◌, length, take, Some, None, option_map, slice_get, bytes_eq, if◌then◌else◌, refl, sym, ap, subst, arith}
+use Rattle.std.proofs.lemmas.Bool.{cases_eq, cases_lt}
 use Rattle.std.proofs.lemmas.Option.{slice_get_within}
 use Rattle.std.proofs.lemmas.Slice.Eq.{bytes_eq-Decides}
 use Rattle.ideal_meaning.specs.Frames.{place_of}
@@ -31,6 +32,22 @@ module _ {A : Type 0} where
 
   pub none_past : (k : ℕ) (x : A) (xs : List A) → length xs ≤ k → slice_get xs k ≢ Some x
   none_past k x xs h e = let w = slice_get_within xs k x e in absurd (omega (arith, h, w))
+
+  -- a walk: no item before the place is x
+  pub walks_on : (place : ℕ) (x : A) (xs : List A) → ((k : ℕ) → k < place → slice_get xs k ≢ Some x) → slice_get xs place ≢ Some x
+      → (k : ℕ) → k < place + 1 → slice_get xs k ≢ Some x
+  walks_on place x xs before here k h =
+      elim (cases_eq k place) [
+        | inl same ↦ subst (λ k. slice_get xs k ≢ Some x) (sym same) here
+        | inr other ↦ before k (omega (arith, h, other))
+      ]
+
+  pub walked_all : (place : ℕ) (x : A) (xs : List A) → ((k : ℕ) → k < place → slice_get xs k ≢ Some x) → length xs ≤ place → (k : ℕ) → slice_get xs k ≢ Some x
+  walked_all place x xs before past k =
+      elim (cases_lt k place) [
+        | inl sooner ↦ before k sooner
+        | inr later ↦ none_past k x xs (omega (arith, later, past))
+      ]
 
 -- what the test on bytes says
 pub same_bytes : (p q : List ℕ) → bytes_eq q p ≡ true → q ≡ p

@@ -1,12 +1,17 @@
 -- How a ring finds a piece by its bytes: pieces stand in buckets by their hash, and each leads to the next older one of its bucket.
--- No contract of a ring speaks of this.
+-- No contract of a ring speaks of this, but for `IsBucketOf`.
 use Rattle.std.specs.Prelude.{◌≡◌, ◌≢◌, ℕ, ◌+◌, ◌-◌, ◌<◌, ◌≤◌, ◌%◌, List, [], ◌∷◌, length, map, Some, slice_get, slice_index, nat_le, nat_lt, if◌then◌else◌}
 use Rattle.std.specs.Hash.FoldHasher.{initial, write, finish}
 use Rattle.reuse_buffer.specs.declared.held_piece.HeldPiece.{HeldPiece}
+use Rattle.reuse_buffer.specs.declared.ring.Bucket.{Bucket}
 
 -- the bucket of a piece, of `count`
 unfoldable pub bucket_of : (count : ℕ) → List ℕ → ℕ
 bucket_of count bytes = finish (write initial bytes) % count
+
+-- in a ring of this size, it is the bucket of a piece with these bytes
+abbrev pub IsBucketOf : (size : ℕ) → List ℕ → Bucket → Type 0
+IsBucketOf size bytes bucket = 0 < size → (bucket.0 ≡ bucket_of size bytes) × (bucket.0 < size)
 
 abbrev pub buckets_in : List HeldPiece → List ℕ
 buckets_in pieces = map (λ p. p.bucket) pieces
@@ -49,3 +54,15 @@ pub record IsIndex (count now : ℕ) (newest : List ℕ) (pieces : List HeldPiec
   pub within : 0 < count → now < count
   pub linked : AreLinked count pieces
   pub first : AreNewest count now newest (buckets_in pieces)
+
+-- So many of the pieces are held, the last ones; the others are forgotten.
+pub record AreHeld (count held : ℕ) (pieces : List HeldPiece) : Type 0 where
+  pub there : held ≤ length pieces
+  pub within : held ≤ count
+
+-- room for an index, with one bucket for each place of the ring
+pub record HasRoom (count now : ℕ) (newest : List ℕ) : Type 0 where
+  pub small : count ≤ 1024
+  pub each : length newest ≡ count
+  pub within : 0 < count → now < count
+  pub turn : (bucket : ℕ) → bucket < count → slice_index newest bucket < count

@@ -3,7 +3,9 @@
 
 mod held_piece;
 mod ring;
+mod spare_ring;
 
 #[doc(hidden)]
 pub use held_piece::HeldPiece;
-pub use ring::Ring;
+pub use ring::{Bucket, Ring};
+pub use spare_ring::SpareRing;

@@ -1,8 +1,8 @@
 // The ring of kept pieces.
-ghost use Rattle.std.specs.Prelude.{◌≡◌, ◌≤◌, ◌<◌, ◌↔◌, ◌∷◌, [], List, ℕ, length, slice_get, option_copied, IfOk, IsTrue, Some};
+ghost use Rattle.std.specs.Prelude.{◌≡◌, ◌≤◌, ◌<◌, ◌↔◌, ◌∷◌, ◌+◌, [], List, ℕ, length, min, slice_get, take, option_copied, IfOk, IsTrue, Some};
 ghost use Rattle.ideal_meaning.specs.Frames as frames;
 ghost use Rattle.reuse_buffer.specs.Kept.{kept};
-ghost use Rattle.reuse_buffer.specs.Index.{IsFirstOf, IsIndex, buckets_in, next_turn, place_at};
+ghost use Rattle.reuse_buffer.specs.Index.{IsBucketOf, IsFirstOf, IsIndex, buckets_in, bytes_in, next_turn, place_at};
 
 use crate::held_piece::{HeldPiece, bucket_of, bytes_of};
 use circular_buffer::HeapCircularBuffer;
@@ -12,26 +12,36 @@ use std::marker::Model;
 /// The last pieces that were pushed, up to a number that is fixed when it is made. To use a piece doesn't move it.
 #[derive(Drop)]
 pub struct Ring {
-    // The last one first.
+    // The last one first. Behind those that are held stand pieces that were forgotten, until their memory is given back.
     pieces: HeapCircularBuffer<HeldPiece>,
     // For each bucket the turn of its last piece; where that is no longer held, another bucket's piece is at its place, or none.
     newest: Vec<u16>,
     // The turn of the last piece. Turns count the pushes, modulo the size.
     turn: u16,
+    // How many of the pieces are held.
+    held: usize,
+    // Whether the index has those. Else a piece is found by a walk over them.
+    indexed: bool,
 }
 
 impl Model for Ring {
     ghost use Rattle.reuse_buffer.specs.Kept.{Kept, kept_as, kept_code};
-    ghost use Rattle.reuse_buffer.specs.Index.{IsIndex, bytes_in};
+    ghost use Rattle.reuse_buffer.specs.Index.{AreHeld, HasRoom, IsIndex, bytes_in};
+    ghost use Rattle.std.specs.Prelude.{IsTrue, take};
 
     ghost Value = { Kept };
 
     ghost coded = { kept_code };
 
-    ghost view = { λ r. kept_as (bytes_in r.pieces.items) r.pieces.capacity };
+    ghost view = { λ r. kept_as (bytes_in (take r.held r.pieces.items)) r.pieces.capacity };
 
-    ghost invariant = { λ r. IsIndex r.pieces.capacity r.turn r.newest.items r.pieces.items };
+    ghost invariant = { λ r. HasRoom r.pieces.capacity r.turn r.newest.items × AreHeld r.pieces.capacity r.held r.pieces.items
+        × (IsTrue r.indexed → IsIndex r.pieces.capacity r.turn r.newest.items (take r.held r.pieces.items)) };
 }
+
+/// A bucket of the index by which a ring finds its pieces.
+#[derive(Clone, Copy)]
+pub struct Bucket(u16);
 
 impl Ring {
     /// A ring that holds at most `size` pieces, up to 1,024, and none yet. All the room that it needs is made here.
@@ -45,6 +55,8 @@ impl Ring {
             pieces,
             newest,
             turn: 0,
+            held: 0,
+            indexed: true,
         })
     }
 
@@ -62,14 +74,14 @@ impl Ring {
         ensures within { result ≤ self.now.size }
         ensures small { result ≤ 1024 }
     {
-        self.pieces.len()
+        self.held
     }
 
     /// The k-th last piece, 0 being the last; none exactly where k isn't below [`held`](Ring::held).
     pub fn get(&self, k: u16) -> Option<&[u8]>
         ensures { option_copied result ≡ slice_get self.now.pieces k }
     {
-        match self.pieces.get(usize::from(k)) {
+        match held_at(&self.pieces, self.held, usize::from(k)) {
             Some(held) => Some(held.bytes.as_slice()),
             None => None,
         }
@@ -79,14 +91,36 @@ impl Ring {
     pub fn place_of(&self, bytes: &[u8]) -> Option<u16>
         ensures { result ≡ frames.place_of bytes.now self.now.pieces }
     {
+        self.place_in(self.bucket(bytes), bytes)
+    }
+
+    /// The bucket in which a piece is looked for, for [`place_in`](Ring::place_in) and [`push_in`](Ring::push_in).
+    #[inline(always)]
+    pub fn bucket(&self, bytes: &[u8]) -> Bucket
+        ensures { IsBucketOf self.now.size bytes.now result }
+    {
+        let count = self.pieces.capacity() as u16;
+        if count == 0 {
+            return Bucket(0);
+        }
+        Bucket(bucket_of(bytes, count))
+    }
+
+    /// The place of a piece with these bytes, as [`place_of`](Ring::place_of) gives it, where their bucket is known.
+    pub fn place_in(&self, bucket: Bucket, bytes: &[u8]) -> Option<u16>
+        requires { IsBucketOf self.now.size bytes.now bucket }
+        ensures { result ≡ frames.place_of bytes.now self.now.pieces }
+    {
+        if !self.indexed {
+            return walked(&self.pieces, self.held, bytes);
+        }
         let count = self.pieces.capacity() as u16;
         if count == 0 {
             return None;
         }
-        let bucket = bucket_of(bytes, count);
-        let first = first_of(&self.pieces, &self.newest, self.turn, bucket);
+        let first = first_of(&self.pieces, self.held, &self.newest, self.turn, bucket.0);
         let mut place = usize::from(first);
-        while let Some(held) = self.pieces.get(place) {
+        while let Some(held) = held_at(&self.pieces, self.held, place) {
             if held.bytes.as_slice() == bytes {
                 return Some(place as u16);
             }
@@ -95,46 +129,120 @@ impl Ring {
         None
     }
 
-    /// Takes a piece in, as the last one. Where the ring is full, the oldest one goes, and its memory is given back; where it holds none,
-    /// that of the piece itself.
+    /// Takes a piece in, as the last one. Where as many pieces as the ring holds at most are there, forgotten ones among them, the oldest
+    /// one goes, and its memory is given back; where it holds none, that of the piece itself.
     #[inline(always)]
     pub fn push(&mut self, piece: Vec<u8>) -> Option<Vec<u8>>
         ensures last { (recent : List (List ℕ)) → self.old ≡ kept self.old.size recent → self.new ≡ kept self.old.size (piece.items ∷ recent) }
         ensures pieces { self.new ≡ kept self.old.size (piece.items ∷ self.old.pieces) }
     {
+        let bucket = self.bucket(&piece);
+        self.push_in(bucket, piece)
+    }
+
+    /// Takes a piece in as [`push`](Ring::push) does, where its bucket is known.
+    #[inline(always)]
+    pub fn push_in(&mut self, bucket: Bucket, piece: Vec<u8>) -> Option<Vec<u8>>
+        requires { IsBucketOf self.old.size piece.items bucket }
+        ensures last { (recent : List (List ℕ)) → self.old ≡ kept self.old.size recent → self.new ≡ kept self.old.size (piece.items ∷ recent) }
+        ensures pieces { self.new ≡ kept self.old.size (piece.items ∷ self.old.pieces) }
+    {
+        if !self.indexed {
+            return self.push_unindexed(piece);
+        }
         let count = self.pieces.capacity() as u16;
         if count == 0 {
             return Some(piece);
         }
-        let bucket = bucket_of(&piece, count);
-        let between = first_of(&self.pieces, &self.newest, self.turn, bucket);
+        let between = first_of(&self.pieces, self.held, &self.newest, self.turn, bucket.0);
         self.turn = next_turn(count, self.turn);
-        self.newest[usize::from(bucket)] = self.turn;
+        self.newest[usize::from(bucket.0)] = self.turn;
+        self.held = held_behind(self.held, usize::from(count));
         let oldest = self.pieces.push_front(HeldPiece {
             bytes: piece,
-            bucket,
+            bucket: bucket.0,
             between,
         });
         bytes_of(oldest)
     }
 
-    /// Forgets all pieces.
+    /// Takes a piece in as [`push`](Ring::push) does, without its bucket. Until the ring is cleared, a piece is then found by a walk over
+    /// those that are held.
+    #[inline(always)]
+    pub fn push_unindexed(&mut self, piece: Vec<u8>) -> Option<Vec<u8>>
+        ensures last { (recent : List (List ℕ)) → self.old ≡ kept self.old.size recent → self.new ≡ kept self.old.size (piece.items ∷ recent) }
+        ensures pieces { self.new ≡ kept self.old.size (piece.items ∷ self.old.pieces) }
+    {
+        self.indexed = false;
+        self.held = held_behind(self.held, self.pieces.capacity());
+        let oldest = self.pieces.push_front(HeldPiece {
+            bytes: piece,
+            bucket: 0,
+            between: 0,
+        });
+        bytes_of(oldest)
+    }
+
+    /// Forgets all pieces. Their memory stays, for [`push`](Ring::push) to give back.
     pub fn clear(&mut self)
         ensures { self.new ≡ kept self.old.size [] }
     {
-        self.pieces.clear();
+        self.held = 0;
+        self.indexed = true;
     }
 }
 
+/// The piece at a place, among the first `held`.
+fn held_at(pieces: &HeapCircularBuffer<HeldPiece>, held: usize, place: usize) -> Option<&HeldPiece>
+    ensures { option_copied result ≡ slice_get (take held pieces.now.items) place }
+{
+    if place < held {
+        pieces.get(place)
+    } else {
+        None
+    }
+}
+
+/// The least place of a piece with these bytes, among the first `held`.
+fn walked(pieces: &HeapCircularBuffer<HeldPiece>, held: usize, bytes: &[u8]) -> Option<u16>
+    requires { held ≤ 1024 }
+    ensures { result ≡ frames.place_of bytes.now (bytes_in (take held pieces.now.items)) }
+{
+    let mut place = 0;
+    while let Some(piece) = held_at(pieces, held, place) {
+        if piece.bytes.as_slice() == bytes {
+            return Some(place as u16);
+        }
+        place += 1;
+    }
+    None
+}
+
+/// How many pieces a ring of `count` holds behind a push, where it held `held`.
+fn held_behind(held: usize, count: usize) -> usize
+    requires within { held ≤ count }
+    requires small { count ≤ 1024 }
+    ensures { result ≡ min count (held + 1) }
+{
+    if held < count { held + 1 } else { held }
+}
+
 /// The place of the last piece in a bucket; where the bucket has none, a number that is no place.
-fn first_of(pieces: &HeapCircularBuffer<HeldPiece>, newest: &[u16], now: u16, bucket: u16) -> u16
-    requires index { IsIndex pieces.now.capacity now newest.now pieces.now.items }
+fn first_of(
+    pieces: &HeapCircularBuffer<HeldPiece>,
+    held: usize,
+    newest: &[u16],
+    now: u16,
+    bucket: u16,
+) -> u16
+    requires index { IsIndex pieces.now.capacity now newest.now (take held pieces.now.items) }
     requires bucket { bucket < pieces.now.capacity }
-    ensures first { IsFirstOf bucket result (buckets_in pieces.now.items) }
+    requires held { held ≤ pieces.now.capacity }
+    ensures first { IsFirstOf bucket result (buckets_in (take held pieces.now.items)) }
 {
     let count = pieces.capacity() as u16;
     let place = place_at(count, now, newest[usize::from(bucket)]);
-    if is_in(pieces, place, bucket) {
+    if is_in(pieces, held, place, bucket) {
         place
     } else {
         count
@@ -142,11 +250,11 @@ fn first_of(pieces: &HeapCircularBuffer<HeldPiece>, newest: &[u16], now: u16, bu
 }
 
 /// Whether a piece of the bucket stands at the place.
-fn is_in(pieces: &HeapCircularBuffer<HeldPiece>, place: u16, bucket: u16) -> bool
-    ensures { IsTrue result ↔ (slice_get (buckets_in pieces.now.items) place ≡ Some bucket) }
+fn is_in(pieces: &HeapCircularBuffer<HeldPiece>, held: usize, place: u16, bucket: u16) -> bool
+    ensures { IsTrue result ↔ (slice_get (buckets_in (take held pieces.now.items)) place ≡ Some bucket) }
 {
-    match pieces.get(usize::from(place)) {
-        Some(held) => held.bucket == bucket,
+    match held_at(pieces, held, usize::from(place)) {
+        Some(piece) => piece.bucket == bucket,
         None => false,
     }
 }

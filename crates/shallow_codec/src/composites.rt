@@ -108,7 +108,7 @@ pub(crate) fn put_fields<'a, N: Nodes>(
     ensures grows { Grows (N.nodes store.old) (N.nodes store.new) }
     ensures lent { N.lent store.new ≡ N.lent store.old }
 {
-    let value = store.put_constructor(named, tag, &fields.values)?;
+    let value = store.put_constructor(named, tag, fields.values.as_slice())?;
     Ok(Front {
         value,
         behind: fields.behind,
@@ -147,7 +147,7 @@ fn put_items<'a, N: Nodes>(store: &mut N, items: Fronts<'a>) -> Result<Front<'a>
     ensures grows { Grows (N.nodes store.old) (N.nodes store.new) }
     ensures lent { N.lent store.new ≡ N.lent store.old }
 {
-    let value = store.put_vec(&items.values)?;
+    let value = store.put_vec(items.values.as_slice())?;
     Ok(Front {
         value,
         behind: items.behind,

@@ -15,6 +15,7 @@ use crate::cursor::Cursor;
 use crate::leaves::{known_nothing, put_leaf};
 use crate::nothings::Nothings;
 use core_terms::{NamedId, TyForm, TyId, Types, item_types};
+use smallvec::SmallVec;
 use std::alloc::Global;
 use value_store::{Nodes, Ref};
 
@@ -28,7 +29,7 @@ pub(crate) struct Front<'a> {
 /// Values that were read one after another and put into a store, and the place behind them.
 #[derive(Drop)]
 pub(crate) struct Fronts<'a> {
-    pub values: Vec<Ref>,
+    pub values: SmallVec<Ref, 4>,
     pub behind: Cursor<'a>,
 }
 
@@ -183,7 +184,7 @@ impl Reader<'_> {
         ensures grows { Grows (N.nodes store.old) (N.nodes store.new) }
         ensures lent { N.lent store.new ≡ N.lent store.old }
     {
-        let mut values = Vec::new(self.alloc);
+        let mut values = SmallVec::new(self.alloc);
         let mut behind = at;
         for ty in types {
             let front = self.value(store, nothings, *ty, levels, behind)?;

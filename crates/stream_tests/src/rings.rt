@@ -1,7 +1,7 @@
 // The ring of kept pieces, against a plain search.
 ghost use Rattle.std.specs.Prelude.{◌≤◌};
 
-use reuse_buffer::Ring;
+use reuse_buffer::{Ring, SpareRing};
 use std::alloc::{AllocError, Global};
 use std::test::Fail;
 
@@ -48,25 +48,28 @@ fn agrees(ring: &Ring, pushed: &[u16], number: u16) -> bool {
         })
 }
 
-/// The number of the first push, of so many, behind which a ring answers otherwise than the plain search; the pieces are of so
-/// many kinds.
-fn misplaced(
+/// The number of the first push, of so many, behind which a ring that holds nothing yet answers otherwise than the plain search; the
+/// pieces are of so many kinds, and from the push `unindexed` on they don't come into the index.
+fn misplaced_in(
+    ring: &mut Ring,
     alloc: Global,
-    size: u16,
     kinds: u16,
     count: usize,
-) -> Result<Option<usize>, AllocError>
-    requires { size ≤ 1024 }
-{
+    unindexed: usize,
+) -> Result<Option<usize>, AllocError> {
     let mut numbers = Numbers { state: 1 };
-    let mut ring = Ring::with_size(alloc, size)?;
     let mut pushed = Vec::new(alloc);
     for push in 0..count {
         let number = numbers.next() % kinds.max(1);
-        ring.push(Vec::from_slice(alloc, &number.to_be_bytes())?);
+        let piece = Vec::from_slice(alloc, &number.to_be_bytes())?;
+        if push < unindexed {
+            ring.push(piece);
+        } else {
+            ring.push_unindexed(piece);
+        }
         pushed.push(number)?;
         let other = numbers.next() % kinds.max(1);
-        if !agrees(&ring, &pushed, number) || !agrees(&ring, &pushed, other) {
+        if !agrees(ring, &pushed, number) || !agrees(ring, &pushed, other) {
             return Ok(Some(push));
         }
     }
@@ -75,6 +78,27 @@ fn misplaced(
         && ring.get(0).is_none()
         && ring.place_of(b"\x00\x00").is_none();
     Ok(if is_empty { None } else { Some(count) })
+}
+
+/// The same in a new ring with the index; then in this ring with half as many pushes, half of them without it; and then with it again.
+fn misplaced(
+    alloc: Global,
+    size: u16,
+    kinds: u16,
+    count: usize,
+) -> Result<Option<usize>, AllocError>
+    requires { size ≤ 1024 }
+{
+    let mut spare = SpareRing::new();
+    let mut ring = spare.take(alloc, size)?;
+    let first = misplaced_in(&mut ring, alloc, kinds, count, count)?;
+    spare.keep(ring);
+    let mut ring = spare.take(alloc, size)?;
+    let second = misplaced_in(&mut ring, alloc, kinds, count / 2, count / 4)?;
+    spare.keep(ring);
+    let mut ring = spare.take(alloc, size)?;
+    let third = misplaced_in(&mut ring, alloc, kinds, count / 2, count)?;
+    Ok(first.or(second).or(third))
 }
 
 #[test]
@@ -132,5 +156,30 @@ fn each_piece_among_128_is_found(rt: HostRuntime) -> Result<(), Fail> {
 #[test]
 fn each_piece_among_1024_is_found(rt: HostRuntime) -> Result<(), Fail> {
     assert!(rt; finds_each(rt.alloc(), 1024, 20_480)?);
+    Ok(())
+}
+
+/// Whether a push gives memory back where the ring is full or a piece was forgotten, and there alone.
+fn gives_back(alloc: Global, ring: &mut Ring, wanted: &[bool]) -> Result<bool, AllocError> {
+    for want in wanted {
+        if ring.push(Vec::from_slice(alloc, b"piece")?).is_some() != *want {
+            return Ok(false);
+        }
+    }
+    Ok(true)
+}
+
+#[test]
+fn memory_of_forgotten_pieces_is_given_back(rt: HostRuntime) -> Result<(), Fail> {
+    let alloc = rt.alloc();
+    let mut spare = SpareRing::new();
+    let mut ring = spare.take(alloc, 3)?;
+    assert!(rt; gives_back(alloc, &mut ring, &[false, false])?);
+    spare.keep(ring);
+    let mut ring = spare.take(alloc, 3)?;
+    assert!(rt; gives_back(alloc, &mut ring, &[false, true, true, true])?);
+    spare.keep(ring);
+    let mut ring = spare.take(alloc, 2)?;
+    assert!(rt; gives_back(alloc, &mut ring, &[false, false, true])?);
     Ok(())
 }

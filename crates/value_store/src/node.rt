@@ -9,7 +9,7 @@ pub(crate) const INT_SIZE: u32 = 8;
 pub(crate) const DIGEST_SIZE: u32 = 32;
 
 /// The number of a node in its store.
-#[derive(Clone, Copy, PartialEq)]
+#[derive(Clone, Copy, Default, PartialEq)]
 pub struct Ref(pub usize);
 
 /// What the node of an authenticated value holds.

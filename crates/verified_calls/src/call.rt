@@ -12,12 +12,13 @@ ghost use Rattle.verified_calls.specs.Verified.{IsCallOf, IsVerified};
 use code_gen::Code;
 use core_terms::{FunctionId, Hash32, Outcome, Spelling};
 use lam_outside::Bytes;
+use reuse_buffer::SpareRing;
 use std::alloc::Global;
-use verifier_mode::{Verdict, verify};
+use verifier_mode::{Verdict, verify_reusing};
 
 /// A call whose proof file the verifier accepted.
 ///
-/// None is made but by `verify_call`, and nothing that this asks says that a file is accepted: so whoever holds one has had its file verified.
+/// None is made but by `verify_call_reusing`, and nothing that this asks says that a file is accepted: so whoever holds one has had its file verified.
 #[derive(Drop)]
 pub struct VerifiedCall {
     role: FunctionId,
@@ -67,6 +68,34 @@ pub fn verify_call<H: Hash32>(
     ensures refused { let P = program_of code.now in
         IfErr result (λ refusal. AnswersVerdict P role.0 (checked.verdict H.hash P (argument_type P role.0) role.0 state argument fuel file.items) (Err refusal)) }
 {
+    let mut spare = SpareRing::new();
+    verify_call_reusing::<H>(alloc, code, role, state, argument, fuel, file, &mut spare)
+}
+
+/// Verifies a proof file as [`verify_call`] does, with the memory of a spare ring, which is kept again where the file is accepted.
+///
+/// # Errors
+///
+/// Those of [`verify_call`].
+pub fn verify_call_reusing<H: Hash32>(
+    alloc: Global,
+    code: &Code,
+    role: FunctionId,
+    state: Spelling,
+    argument: Spelling,
+    fuel: u64,
+    file: Vec<u8>,
+    spare: &mut SpareRing,
+) -> Result<VerifiedCall, Verdict>
+    requires there { role.0 < length (program_of code.now).functions }
+    requires role { TakesState (program_of code.now) role.0 }
+    requires fuel_fits { fuel ≤ 10 ^ 12 }
+    ensures call { IfOk result (IsCallOf role state argument fuel file.items) }
+    ensures accepted { IfOk result (IsVerified H.hash (program_of code.now)) }
+    ensures cause { IfErr result (λ refusal. VerdictCause {T = Outcome Spelling} 0 0 (Err refusal)) }
+    ensures refused { let P = program_of code.now in
+        IfErr result (λ refusal. AnswersVerdict P role.0 (checked.verdict H.hash P (argument_type P role.0) role.0 state argument fuel file.items) (Err refusal)) }
+{
     match judge::<H>(
         alloc,
         code,
@@ -75,6 +104,7 @@ pub fn verify_call<H: Hash32>(
         argument.as_bytes(),
         fuel,
         &file,
+        spare,
     ) {
         Ok(outcome) => Ok(VerifiedCall {
             role,
@@ -97,6 +127,7 @@ fn judge<H: Hash32>(
     argument: &[u8],
     fuel: u64,
     file: &[u8],
+    spare: &mut SpareRing,
 ) -> Result<Outcome<Spelling>, Verdict>
     requires there { role.0 < length (program_of code.now).functions }
     requires role { TakesState (program_of code.now) role.0 }
@@ -105,5 +136,5 @@ fn judge<H: Hash32>(
     ensures cause { VerdictCause 0 0 result }
 {
     let mut proof = Bytes::new(file);
-    verify::<H, Bytes>(alloc, code, role, state, argument, fuel, &mut proof)
+    verify_reusing::<H, Bytes>(alloc, code, role, state, argument, fuel, &mut proof, spare)
 }

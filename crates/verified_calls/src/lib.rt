@@ -3,4 +3,4 @@
 
 mod call;
 
-pub use call::{VerifiedCall, verify_call};
+pub use call::{VerifiedCall, verify_call, verify_call_reusing};

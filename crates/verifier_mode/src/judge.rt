@@ -28,7 +28,7 @@ use code_gen::Code;
 use core_terms::{Cause, FunctionId, Hash32, Outcome, Program, Spelling, TyId, Types};
 use lam_outside::Source;
 use proof_stream::{FrameReader, HeadEnd};
-use reuse_buffer::Ring;
+use reuse_buffer::{Ring, SpareRing};
 use shallow_codec::{UnspellFault, spell, unspell};
 use std::alloc::{AllocError, Global};
 use value_store::{Ref, Store};
@@ -62,10 +62,40 @@ pub fn verify<H: Hash32, S: Source>(
     ensures faults { VerdictCause (S.faults proof.old) (S.faults proof.new) result }
     ensures rest { S.rest proof.new ≡ S.rest proof.old }
 {
+    let mut spare = SpareRing::new();
+    verify_reusing::<H, S>(alloc, code, role, state, argument, fuel, proof, &mut spare)
+}
+
+/// Judges a call as [`verify`] does, with the memory of a spare ring, which is kept again where the call is accepted.
+///
+/// # Errors
+///
+/// Those of [`verify`]. Whether a ring is kept then isn't told.
+pub fn verify_reusing<H: Hash32, S: Source>(
+    alloc: Global,
+    code: &Code,
+    role: FunctionId,
+    state: &[u8],
+    argument: &[u8],
+    fuel: u64,
+    proof: &mut S,
+    spare: &mut SpareRing,
+) -> Result<Outcome<Spelling>, Verdict>
+    requires there { role.0 < length (program_of code.now).functions }
+    requires role { TakesState (program_of code.now) role.0 }
+    requires fuel_fits { fuel ≤ 10 ^ 12 }
+    ensures verdict { ForSome (S.left proof.old) (λ bytes. let P = program_of code.now in
+        AnswersVerdict P role.0 (checked.verdict H.hash P (argument_type P role.0) role.0 state.now argument.now fuel bytes) result) }
+    ensures headline { ForSome (S.left proof.old) (λ bytes. SaysTrue H.hash (program_of code.now) role.0 state.now argument.now fuel bytes result) }
+    ensures told { IfOk result (TellsSomeOutcome (program_of code.now) (function_at (program_of code.now) role.0).result) }
+    ensures end { ForSome (S.left proof.old) (λ bytes. IfOk result (λ _. S.left proof.new ≡ Some [])) }
+    ensures faults { VerdictCause (S.faults proof.old) (S.faults proof.new) result }
+    ensures rest { S.rest proof.new ≡ S.rest proof.old }
+{
     let mut store = Store::new(alloc, code.types().spelling_limit() as u32);
     let ty = argument_of(code.program(), role);
     let refs = put_call(alloc, code.types(), &mut store, state, argument, ty)?;
-    judge_file::<H, S>(alloc, code, &mut store, role, &refs, fuel, proof)
+    judge_file::<H, S>(alloc, code, &mut store, role, &refs, fuel, proof, spare)
 }
 
 /// Judges a call as [`verify`] does, from the frames of a proof without its header, with a ring that holds the last of the new pieces
@@ -151,6 +181,7 @@ fn judge_file<H: Hash32, S: Source>(
     args: &[Ref],
     fuel: u64,
     proof: &mut S,
+    spare: &mut SpareRing,
 ) -> Result<Outcome<Spelling>, Verdict>
     requires there { role.0 < length (program_of code.now).functions }
     requires stand { (vs : Values) × AllStandFor VerifierNodes (program_of code.now).types (nodes_in store.old) (numbers_of args.now) (function_at (program_of code.now) role.0).parameters vs }
@@ -165,10 +196,10 @@ fn judge_file<H: Hash32, S: Source>(
     ensures rest { S.rest proof.new ≡ S.rest proof.old }
 {
     let size = read_header(alloc, code.types(), proof)?;
-    let ring = Ring::with_size(alloc, size)?;
+    let ring = spare.take(alloc, size)?;
     let judged = judge_call::<H, S>(alloc, code, store, role, args, fuel, proof, ring)?;
     let (outcome, ring) = judged;
-    drop(ring);
+    spare.keep(ring);
     Ok(outcome)
 }
 

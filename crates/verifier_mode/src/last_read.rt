@@ -44,9 +44,6 @@ pub(crate) fn note_read(
 )
     ensures { (types : Typed) (nodes : List Node) → KnowsLast types nodes last.old → IsRead types nodes ty piece.now value → KnowsLast types nodes last.new }
 {
-    if value_again(last, ty, piece).is_some() {
-        return;
-    }
     let mut noted = piece_of(mem::replace(last, None), alloc);
     if noted.extend_from_slice(piece).is_ok() {
         *last = Some(LastRead {

@@ -14,7 +14,7 @@ mod verdict;
 mod verifier;
 
 pub use checked_runs::checked_run;
-pub use judge::{argument_of, put_call, spelled, verify, verify_on};
+pub use judge::{argument_of, put_call, spelled, verify, verify_on, verify_reusing};
 pub use opening::{Asked, are_same, held_digest, stop_of};
 pub use verdict::{CallFault, Verdict};
 pub use verifier::{Verifier, VerifierFault};

@@ -169,7 +169,7 @@ impl<H: Hash32, S: Source> Mode for Verifier<H, S> {
                 let found = H::of_pair(self.fronts.front(ty), &piece);
                 let fresh = open_piece(types, store, ty, asked, &piece, found, &self.last)?;
                 note_read(&mut self.last, store.alloc(), ty, &piece, fresh);
-                let oldest = self.ring.push(piece);
+                let oldest = self.ring.push_unindexed(piece);
                 self.reader.reuse(oldest);
                 self.place += 1;
                 Ok(fresh)

@@ -21,11 +21,12 @@ ghost use Rattle.workloads.specs.Workloads.{call_fuel, outcome_of};
 
 use code_gen::Code;
 use core_terms::{FunctionId, Hash32, Outcome, Spelling, TyId};
-use prover_mode::prove_file;
+use prover_mode::prove_file_reusing;
+use reuse_buffer::SpareRing;
 use shallow_codec::spell;
 use std::alloc::{AllocError, Global};
 use value_store::{Nodes, Ref};
-use verified_calls::{VerifiedCall, verify_call};
+use verified_calls::{VerifiedCall, verify_call_reusing};
 use verifier_mode::{Verdict, argument_of};
 
 /// The fuel of each call.
@@ -45,7 +46,7 @@ pub(crate) struct CheckedCall {
 }
 
 /// Proves a call of a query or an update on a state and an argument that stand among the prover's nodes, into a proof file that asks for
-/// `kept` pieces, and verifies it from the spellings of both.
+/// `kept` pieces, and verifies it from the spellings of both. Both use the memory of the spare ring.
 pub(crate) fn checked_call<H: Hash32, N: Nodes>(
     alloc: Global,
     code: &Code,
@@ -54,6 +55,7 @@ pub(crate) fn checked_call<H: Hash32, N: Nodes>(
     state: Ref,
     argument: Ref,
     kept: u16,
+    spare: &mut SpareRing,
 ) -> Result<CheckedCall, AllocError>
     requires there { role.0 < length (program_of code.now).functions }
     requires role { TakesState (program_of code.now) role.0 }
@@ -72,9 +74,19 @@ pub(crate) fn checked_call<H: Hash32, N: Nodes>(
     let spelled_state = spelled::<H, N>(alloc, code, store, state, code.program().state_type())?;
     let argument_type = argument_of(code.program(), role);
     let spelled_argument = spelled::<H, N>(alloc, code, store, argument, argument_type)?;
-    let proof = prove_file::<H, N>(alloc, code, store, role, state, argument, CALL_FUEL, kept)?;
+    let proof = prove_file_reusing::<H, N>(
+        alloc, code, store, role, state, argument, CALL_FUEL, kept, spare,
+    )?;
     let (proved, file) = proof;
-    let verified = verified::<H>(alloc, code, role, spelled_state, spelled_argument, file)?;
+    let verified = verified::<H>(
+        alloc,
+        code,
+        role,
+        spelled_state,
+        spelled_argument,
+        file,
+        spare,
+    )?;
     Ok(CheckedCall {
         value: proved.value,
         verified,
@@ -91,6 +103,7 @@ fn verified<H: Hash32>(
     state: Spelling,
     argument: Spelling,
     file: Vec<u8>,
+    spare: &mut SpareRing,
 ) -> Result<VerifiedCall, AllocError>
     requires there { role.0 < length (program_of code.now).functions }
     requires role { TakesState (program_of code.now) role.0 }
@@ -99,7 +112,7 @@ fn verified<H: Hash32>(
     ensures call { IfOk result (IsCallOf role state argument call_fuel file.items) }
     ensures accepted { IfOk result (IsVerified H.hash (program_of code.now)) }
 {
-    match verify_call::<H>(alloc, code, role, state, argument, CALL_FUEL, file) {
+    match verify_call_reusing::<H>(alloc, code, role, state, argument, CALL_FUEL, file, spare) {
         Ok(call) => Ok(call),
         Err(refusal) => Err(want_of_memory(refusal)),
     }

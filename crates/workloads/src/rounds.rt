@@ -20,6 +20,7 @@ use crate::workload::Workload;
 use ads_library::Gen;
 use code_gen::Code;
 use core_terms::{Hash32, Outcome};
+use reuse_buffer::SpareRing;
 use std::alloc::{AllocError, Global};
 use value_store::{Mark, Nodes, Ref, first_component};
 
@@ -32,6 +33,7 @@ pub(crate) fn run_round<H: Hash32, N: Nodes>(
     workload: &Workload,
     numbers: &mut Gen,
     tally: &mut Tally,
+    spare: &mut SpareRing,
 ) -> Result<Ref, AllocError>
     requires put { (answer : Ty) × IsRole (program_of code.now) workload.now.put.0 Update (PairTy IntTy IntTy) answer }
     requires get { (answer : Ty) × IsRole (program_of code.now) workload.now.get.0 Query IntTy answer }
@@ -53,8 +55,10 @@ pub(crate) fn run_round<H: Hash32, N: Nodes>(
 {
     let key = next_key(numbers, workload.keys);
     let value = next_value(numbers);
-    let state = put::<H, N>(alloc, code, store, state, key, value, workload, tally)?;
-    get::<H, N>(alloc, code, store, state, key, workload, tally)?;
+    let state = put::<H, N>(
+        alloc, code, store, state, key, value, workload, tally, spare,
+    )?;
+    get::<H, N>(alloc, code, store, state, key, workload, tally, spare)?;
     Ok(state)
 }
 
@@ -85,6 +89,7 @@ fn put<H: Hash32, N: Nodes>(
     value: i64,
     workload: &Workload,
     tally: &mut Tally,
+    spare: &mut SpareRing,
 ) -> Result<Ref, AllocError>
     requires put { (answer : Ty) × IsRole (program_of code.now) workload.now.put.0 Update (PairTy IntTy IntTy) answer }
     requires kept { workload.now.kept ≤ (program_of code.now).format.most_kept }
@@ -113,6 +118,7 @@ fn put<H: Hash32, N: Nodes>(
         state,
         argument,
         workload.kept,
+        spare,
     )?;
     tally.add(&call);
     Ok(new_state(store, state, call.value, before))
@@ -149,6 +155,7 @@ fn get<H: Hash32, N: Nodes>(
     key: i64,
     workload: &Workload,
     tally: &mut Tally,
+    spare: &mut SpareRing,
 ) -> Result<(), AllocError>
     requires get { (answer : Ty) × IsRole (program_of code.now) workload.now.get.0 Query IntTy answer }
     requires kept { workload.now.kept ≤ (program_of code.now).format.most_kept }
@@ -174,6 +181,7 @@ fn get<H: Hash32, N: Nodes>(
         state,
         argument,
         workload.kept,
+        spare,
     )?;
     tally.add(&call);
     store.cut_to(before);

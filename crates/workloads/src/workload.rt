@@ -15,6 +15,7 @@ use crate::tally::Tally;
 use ads_library::Gen;
 use code_gen::Code;
 use core_terms::{FunctionId, Hash32};
+use reuse_buffer::SpareRing;
 use std::alloc::{AllocError, Global};
 use value_store::{Nodes, Ref};
 
@@ -67,6 +68,8 @@ pub fn run_workload<H: Hash32, N: Nodes>(
 {
     let mut numbers = Gen::new(seed);
     let mut tally = Tally::new();
+    // The memory of a ring, and of the pieces that it held, from call to call.
+    let mut spare = SpareRing::new();
     let mut state = state;
     for _round in 0..count {
         state = run_round::<H, N>(
@@ -77,6 +80,7 @@ pub fn run_workload<H: Hash32, N: Nodes>(
             workload,
             &mut numbers,
             &mut tally,
+            &mut spare,
         )?;
     }
     Ok((tally, state))

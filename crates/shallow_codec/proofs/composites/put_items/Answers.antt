@@ -14,13 +14,13 @@ returns-clause-read g c = λ types levels t at read.
     let old = g.N.Nodes.nodes c.args.store.now in
     let new = g.N.Nodes.nodes c.put_vec.new.self in
     let m = length c.args.items.values.items in
-    let there = subst (λ (rs : List Ref). AreThere types old levels read.1 (numbers_of rs) (item_types m t) read.0) (sym c.deref.ensures.value) read.3 in
-    let len : length c.deref.result.now ≡ m = ap length c.deref.ensures.value in
+    let there = subst (λ (rs : List Ref). AreThere types old levels read.1 (numbers_of rs) (item_types m t) read.0) (sym c.as_slice.ensures) read.3 in
+    let len : length c.as_slice.result.now ≡ m = ap length c.as_slice.ensures in
     let stands = subst (λ (n : ℕ). StandsFor VerifierNodes types new c.in_ok-value.value.0 (VecTy n t) (ItemsV read.0)) len
     (c.in_ok-value.ensures.stands VerifierNodes types t read.0
-    (subst (λ (n : ℕ). AllStandFor VerifierNodes types old (numbers_of c.deref.result.now) (item_types n t) read.0) (sym len) there.stand)) in
+    (subst (λ (n : ℕ). AllStandFor VerifierNodes types old (numbers_of c.as_slice.result.now) (item_types n t) read.0) (sym len) there.stand)) in
     items_is_read types levels m t at c.args.items.behind old new
-    (numbers_of c.deref.result.now) c.in_ok-value.value.0 read.1 read.0 read.2 there read.4 c.in_ok-value.ensures.put stands
+    (numbers_of c.as_slice.result.now) c.in_ok-value.value.0 read.1 read.0 read.2 there read.4 c.in_ok-value.ensures.put stands
 
 pub returns-clause-inside : goal.returns-clause-inside
 returns-clause-inside g c =

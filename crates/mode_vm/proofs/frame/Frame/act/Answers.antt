@@ -5,6 +5,7 @@ use Rattle.core_terms.specs.Instructions as instruction
 use Rattle.code_gen.specs.Programs.{program_in}
 use Rattle.mode_vm.specs.Machines.{Before}
 use Rattle.mode_vm.specs.Meanings.{program_of}
+use Rattle.mode_vm.specs.Outcomes.{Acts}
 use Rattle.mode_vm.proofs.PassedInts.{kept}
 use Rattle.mode_vm.proofs.OwnInstructions.{before}
 use Rattle.mode_vm.proofs.frame.Frame.act.Goals as goal
@@ -98,3 +99,8 @@ pub returns-in-Not-clause-does : goal.returns-in-Not-clause-does
 returns-in-Not-clause-does g c m values b =
     let P = program_of c.args.code.now in
     c.not.ensures.does m values (before P (types_of (program_in c.args.code.now)) m (g.N.Nodes.nodes c.args.store.now) c.args.self.now values _ _ c.in-Not.is b)
+
+pub returns-in_default-clause-does : goal.returns-in_default-clause-does
+returns-in_default-clause-does g c m values b =
+    subst (λ r. Acts m (program_of c.args.code.now) (g.N.Nodes.nodes c.act_apart.new.store) c.args.self.now values c.act_apart.new.self r) (sym c.result_of.ensures)
+    (c.act_apart.ensures.does m values b)

@@ -1,6 +1,10 @@
 use Rattle.std.proofs.Common.{◌+◌, ◌<◌, ◌≤◌, ◌≡◌, ◌^◌, ◌++◌, List, false}
 use Rattle.core_terms.specs.Types.{Ty}
 use Rattle.value_store.specs.Standing.{Keeps}
+use Rattle.core_terms.specs.Bodies.{code_at}
+use Rattle.core_terms.specs.GeneratedCode.{generated}
+use Rattle.core_terms.specs.InstructionViews.{instructions_of}
+use Rattle.core_terms.specs.Programs.{types_of}
 use Rattle.code_gen.specs.Programs.{program_in}
 use Rattle.mode_vm.specs.Machines.{steps_left}
 use Rattle.mode_vm.specs.Openings.{GaveAll}
@@ -10,9 +14,10 @@ use Rattle.mode_vm.specs.Runs.{Ready, WillRun}
 use Rattle.mode_vm.specs.NodesPut.{WorksInHand}
 use Rattle.mode_vm.proofs.machine.Machine.run_slice.Given as goal
 
--- the machine is ready and will come to what it would have come to at first; few enough values will be opened
-abbrev pub invariant-loop-units : goal.invariant-loop-units
-invariant-loop-units g l =
+-- the machine is ready and will come to what it would have come to at first; few enough values will be opened; the instructions are
+-- those of the function
+abbrev pub invariant-loop-instructions : goal.invariant-loop-instructions
+invariant-loop-instructions g l =
     ((z : Ty) → Ready g.M.Mode.marking (program_of l.code) z (g.N.Nodes.nodes l.fn.store) l.fn.self.state → Ready g.M.Mode.marking (program_of l.code) z (g.N.Nodes.nodes l.store) l.self.state)
     × ((z : Ty) (w : StateOf g.M.Mode.marking) (run : RunOf g.M.Mode.marking) → g.M.Mode.Follows (program_in l.code).types l.fn.self.mode l.fn.world (g.N.Nodes.nodes l.fn.store) w
     → WillRun g.M.Mode.marking (program_of l.code) z (g.N.Nodes.nodes l.fn.store) l.fn.self.state w run
@@ -33,6 +38,7 @@ invariant-loop-units g l =
     → WillRun g.M.Mode.marking (program_of l.code) z (g.N.Nodes.nodes l.fn.store) l.fn.self.state w run
     → (w' : StateOf g.M.Mode.marking) × g.M.Mode.Expects l.self.mode w' more × WillRun g.M.Mode.marking (program_of l.code) z (g.N.Nodes.nodes l.store) l.self.state w' run))
     × (WorksInHand (program_of l.code) → g.N.Nodes.nodes l.store ≡ g.N.Nodes.nodes l.fn.store)
+    × (instructions_of (types_of (program_in l.code)) l.instructions ≡ (code_at (generated (program_of l.code)) l.function.0).code)
 
-abbrev pub decreases-loop-units : goal.decreases-loop-units
-decreases-loop-units g l = steps_left (program_of l.code) l.self.state
+abbrev pub decreases-loop-instructions : goal.decreases-loop-instructions
+decreases-loop-instructions g l = steps_left (program_of l.code) l.self.state

@@ -318,7 +318,7 @@ fields-loop-ty-preserved g t c =
     (ty_at tys c.args.types.now c.loop-ty.ty-index (record { 0 = 0 }) (omega arith)) c.in_ok-front.ensures.read in
     record {
       so_far = so_far_more types c.args.levels ts c.args.at c.loop-ty.ty-index (g.N.Nodes.nodes c.loop-ty.store) new c.loop-ty.values.items c.push.new.self.items front.value mid front.behind
-          (omega (arith, length_types tys c.args.types.now)) c.in_ok-front.ensures.grows c.in_ok-push.ensures.items c.loop-ty.invariant.so_far at_i;
+          (omega (arith, length_types tys c.args.types.now)) c.in_ok-front.ensures.grows c.in_ok-push.ensures.ok c.loop-ty.invariant.so_far at_i;
       known = c.in_ok-front.ensures.known;
       grows = grows_then (g.N.Nodes.nodes c.args.store.now) (g.N.Nodes.nodes c.loop-ty.store) new c.loop-ty.invariant.grows c.in_ok-front.ensures.grows;
       lent = c.in_ok-front.ensures.lent ∙ c.loop-ty.invariant.lent;

@@ -106,10 +106,10 @@ returns-in_ok-fresh-in-Ok-New-clause-opens g c x w stands follows =
     c.of_pair-found.ensures ∙ ap₂ (λ f b. hash (f ++ b)) (c.front.ensures ∙ front_is hash c.args.types.now c.args.self.now.fronts c.requires.knows.1 c.args.ty) (c.deref.ensures.value ∙ sym c.deref-in-Ok-New.ensures.value) in
     let one : place + 1 ≡ suc place = omega arith in
     let same : limit_of c.reuse.new.self ≡ limit = c.reuse.ensures.limit ∙ c.take_piece-piece.ensures.limit ∙ c.in-Ok-New.ensures.limit in
-    let holds = c.push-oldest.ensures.last follows.recent follows.holds ∙ ap (λ q. kept ring.size (q ∷ follows.recent)) (sym c.deref-in-Ok-New.ensures.value) in
-    opens hash P t want place x w held limit ring left follows (FollowsFrames P (limit_of c.reuse.new.self) c.push-oldest.new.self (place + 1) left') (g.N.Nodes.nodes c.open_piece.new.store)
+    let holds = c.push_unindexed-oldest.ensures.last follows.recent follows.holds ∙ ap (λ q. kept ring.size (q ∷ follows.recent)) (sym c.deref-in-Ok-New.ensures.value) in
+    opens hash P t want place x w held limit ring left follows (FollowsFrames P (limit_of c.reuse.new.self) c.push_unindexed-oldest.new.self (place + 1) left') (g.N.Nodes.nodes c.open_piece.new.store)
     (Offers piece (length r.0) more) behind c.in_ok-fresh-in-Ok-New.fresh offer
-    (follows_new hash P t want place x w held limit ring left follows piece r.0 r.1 (limit_of c.reuse.new.self) c.push-oldest.new.self (place + 1) left' same holds one r.2)
+    (follows_new hash P t want place x w held limit ring left follows piece r.0 r.1 (limit_of c.reuse.new.self) c.push_unindexed-oldest.new.self (place + 1) left' same holds one r.2)
     (c.in_ok-fresh-in-Ok-New.ensures.opens hash (length r.0) more here found)
 
 pub returns-in_ok-fresh-in-Ok-New-clause-moves : goal.returns-in_ok-fresh-in-Ok-New-clause-moves
@@ -121,10 +121,10 @@ returns-in_ok-fresh-in-Ok-New-clause-moves g c =
     let piece = c.deref-in-Ok-New.result.now in
     let in_hand : piece_of c.next.new.self ≡ piece = sym (c.deref-in-Ok-New.ensures.value ∙ c.take_piece-piece.ensures.piece) in
     let same : limit_of c.reuse.new.self ≡ limit = c.reuse.ensures.limit ∙ c.take_piece-piece.ensures.limit ∙ c.in-Ok-New.ensures.limit in
-    moves_new limit (limit_of c.reuse.new.self) ring left left' same c.push-oldest.new.self piece
+    moves_new limit (limit_of c.reuse.new.self) ring left left' same c.push_unindexed-oldest.new.self piece
     (λ bytes told. new_taken limit bytes left' _ (piece_of c.next.new.self) (c.in-Ok-New.ensures.takes bytes told) piece c.in-Ok-New.field-0-is in_hand)
-    (λ recent holds. c.push-oldest.ensures.last recent holds ∙ ap (λ q. kept ring.size (q ∷ recent)) (sym c.deref-in-Ok-New.ensures.value))
-    (ap (λ (r : Kept). r.size) c.push-oldest.ensures.pieces)
+    (λ recent holds. c.push_unindexed-oldest.ensures.last recent holds ∙ ap (λ q. kept ring.size (q ∷ recent)) (sym c.deref-in-Ok-New.ensures.value))
+    (ap (λ (r : Kept). r.size) c.push_unindexed-oldest.ensures.pieces)
 
 pub returns-in_ok-used-in-Ok-Back-clause-some : goal.returns-in_ok-used-in-Ok-Back-clause-some
 returns-in_ok-used-in-Ok-Back-clause-some g c =

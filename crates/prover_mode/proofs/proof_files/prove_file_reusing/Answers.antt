@@ -12,7 +12,7 @@ use Rattle.prover_mode.specs.Calls.{IsAccepted}
 use Rattle.ideal_meaning.specs.RunFrames.{run_frames, again_in, fresh_in}
 use Rattle.prover_mode.proofs.Accepted.{file_accepted}
 use Rattle.prover_mode.proofs.CallParts.{holds_last}
-use Rattle.prover_mode.proofs.proof_files.prove_file.Goals as goal
+use Rattle.prover_mode.proofs.proof_files.prove_file_reusing.Goals as goal
 
 pub returns-clause-frames : goal.returns-clause-frames
 returns-clause-frames g c s a called =

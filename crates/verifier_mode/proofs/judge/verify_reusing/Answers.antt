@@ -14,7 +14,7 @@ use Rattle.verifier_mode.proofs.Judging.{good_call, put_cause, refused}
 use Rattle.verifier_mode.proofs.Parameters.{both_stand}
 use Rattle.verifier_mode.proofs.SaysTrue.{says_true}
 use Rattle.verifier_mode.proofs.TypesAlone.{argument_by, put_by}
-use Rattle.verifier_mode.proofs.judge.verify.Goals as goal
+use Rattle.verifier_mode.proofs.judge.verify_reusing.Goals as goal
 
 pub returns-in_err-refs-clause-verdict : goal.returns-in_err-refs-clause-verdict
 returns-in_err-refs-clause-verdict g c bytes told =
