@@ -12,6 +12,16 @@ CHANGES = {
             "{ℕ, Bool, ◌&&◌, nat_le, List,",
             "{ℕ, suc, Bool, ◌&&◌, nat_le, List,",
         ),
+        (
+            "same_type: arrays of any length",
+            "same_type (VecTy m a) (VecTy n b) = nat_eq m n && same_type a b",
+            "same_type (VecTy m a) (VecTy n b) = same_type a b",
+        ),
+        (
+            "same_type: arrays of any element",
+            "same_type (VecTy m a) (VecTy n b) = nat_eq m n && same_type a b",
+            "same_type (VecTy m a) (VecTy n b) = nat_eq m n",
+        ),
     ],
     "Values": [
         (
@@ -115,16 +125,6 @@ CHANGES = {
         ),
     ],
     "Typing": [
-        (
-            "same_type: arrays of any length",
-            "same_type (VecTy m a) (VecTy n b) = nat_eq m n && same_type a b",
-            "same_type (VecTy m a) (VecTy n b) = same_type a b",
-        ),
-        (
-            "same_type: arrays of any element",
-            "same_type (VecTy m a) (VecTy n b) = nat_eq m n && same_type a b",
-            "same_type (VecTy m a) (VecTy n b) = nat_eq m n",
-        ),
         (
             "has_type: an operation of any type",
             "same_type (result_type op) t && (is_operation op && have_types env xs (operand_types op))",

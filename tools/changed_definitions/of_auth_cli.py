@@ -3,4 +3,4 @@ from by_clauses import changes_by_clause
 
 LEMMAS, CODE = {}, {}
 
-CHANGES = changes_by_clause("auth_cli", ["Serving", "Asking", "OnlineRuns", "NetRuns", "NetFaults", "ServeSteps", "AskSteps", "PreparedClients", "PreparedServers", "ToldNumbers"])
+CHANGES = changes_by_clause("auth_cli", ["NetRuns"])

@@ -127,7 +127,6 @@ CHANGES = {
         ("text_in: the empty text", "text_in (TextV bytes) = bytes", "text_in (TextV bytes) = []"),
         ("tag_in: 0", "tag_in (ConV tag vs) = tag", "tag_in (ConV tag vs) = 0"),
         ("fields_in: none", "fields_in (ConV tag vs) = vs", "fields_in (ConV tag vs) = NoV"),
-        ("call_from: no nesting", "call_from mode f args k w = call mode k f args k w", "call_from mode f args k w = call mode zero f args k w"),
         ("run: the other branch first", "choose (bool_in v) (run first) (run other) env k w", "choose (bool_in v) (run other) (run first) env k w"),
         ("run: fst is snd", "Gives (first_in v) k w", "Gives (second_in v) k w"),
         ("run: the length is one more", "Gives (IntV (pos (length (text_in v)))) k w", "Gives (IntV (pos (suc (length (text_in v))))) k w"),

@@ -3,4 +3,4 @@ from by_clauses import changes_by_clause
 
 LEMMAS, CODE = {}, {}
 
-CHANGES = changes_by_clause("script_play", ["Playing", "PlayingInCode", "Halting", "HaltingInCode", "PlayRuns", "Plays", "DeedLines", "Tellings", "Prompt"])
+CHANGES = changes_by_clause("script_play", ["Playing", "PlayingInCode", "PlayedInCode", "Halting", "HaltingInCode", "PlayRuns", "Plays", "DeedLines", "Tellings", "Prompt"])

@@ -305,6 +305,7 @@ CHANGES = {
         ("locals_in: a leaf has none", "locals_in n e = n", "locals_in n e = 0"),
         ("locals_in_row: of nothing none", "locals_in_row n NoE = n", "locals_in_row n NoE = 0"),
         ("expressions_in_all: of nothing 1", "expressions_in_all [] = 0", "expressions_in_all [] = 1"),
+        ("IsWithinLimits: any functions", "  pub each : All IsFunctionWithin P.functions\n", "  pub each : Unit {0}\n"),
     ],
     "ProgramLimits": [
         ("most_types: 257", "most_types = 256", "most_types = 257"),
@@ -315,7 +316,6 @@ CHANGES = {
         ("most_locals: 256", "most_locals = 255", "most_locals = 256"),
         ("most_expressions: one more", "most_expressions = 262144", "most_expressions = 262145"),
         ("most_levels: 101", "most_levels = 100", "most_levels = 101"),
-        ("IsWithinLimits: any functions", "  pub each : All (IsFunctionWithin P.types) P.functions\n", "  pub each : Unit {0}\n"),
     ],
     "ProgramTrees": [
         ("in_a_row: the first alone", "in_a_row (x ∷ xs) = AndE x (in_a_row xs)", "in_a_row (x ∷ xs) = AndE x NoE"),
@@ -379,8 +379,8 @@ CHANGES = {
             "are_below: at most",
             "are_below count ids = list_all (λ (id : TyId). nat_lt id.0 count) ids",
             "are_below count ids = list_all (λ (id : TyId). nat_lt id.0 (1 + count)) ids",
-            "{ℕ, Bool, ◌&&◌, List, [], ◌∷◌, length, map, nat_lt}",
-            "{ℕ, ◌+◌, Bool, ◌&&◌, List, [], ◌∷◌, length, map, nat_lt}",
+            "{ℕ, Bool, ◌&&◌, List, [], ◌∷◌, length, map, nat_lt, None}",
+            "{ℕ, ◌+◌, Bool, ◌&&◌, List, [], ◌∷◌, length, map, nat_lt, None}",
         ),
         (
             "are_types_within: any state",
@@ -562,6 +562,6 @@ CHANGES = {
     ],
     "Programs": [
         ("constructor_names: of the first type", "(slice_get named number)) []", "(slice_get named 0)) []"),
-        ("meaning: no function", "meaning p = program_with p.types p.functions.items", "meaning p = program_with p.types []"),
+        ("meaning: no function", "meaning p = program_of_parts p.types p.functions.items p.code", "meaning p = program_of_parts p.types [] p.code"),
     ],
 }

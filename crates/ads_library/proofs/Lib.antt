@@ -1,6 +1,6 @@
 -- `source`
 pub mod Named
--- of all four laws: how a run is followed, that more fuel changes nothing, what a call gives then, how a map is kept
+-- `more_fuel`, and for the laws of all four programs: how a run is followed, what a call gives with more fuel, how a map is kept
 pub mod Stepping
 pub mod CodeMoreFuel
 pub mod MoreFuel

@@ -1,11 +1,12 @@
 // The runs of 1,000 random programs on the machine, beside those of the reference.
 use crate::drawn::{limit_of, program_of_seed};
-use crate::stage::{FIRST, end_word, ends_as};
+use crate::stage::{end_word, ends_as};
 use code_gen::Code;
 use core_terms::Outcome;
 use reference_run::{Plain, metered_run};
 use std::alloc::Global;
 use std::test::Fail;
+use term_stage::one_int::FIRST;
 
 /// How many programs there are.
 const PROGRAMS: u64 = 1_000;

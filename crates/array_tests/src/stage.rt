@@ -1,38 +1,14 @@
 // Runs of programs with arrays: of the machine, and of the reference.
-ghost use Rattle.std.specs.Prelude.{◌≡◌, ◌<◌, ◌∷◌, [], length, IsTrue};
-ghost use Rattle.core_terms.specs.Programs.{meaning};
-ghost use Rattle.core_terms.specs.Terms.{function_at};
-ghost use Rattle.core_terms.specs.Types.{IntTy};
-
 use code_gen::Code;
-use core_terms::{FunctionId, Outcome, Program, Trap, TyForm};
+use core_terms::{MOST_FUEL, Outcome};
 use mode_vm::ideal_run;
 use reference_run::Plain;
 use std::alloc::{AllocError, Global};
+use term_stage::one_int::{FIRST, takes_int, trap_word};
 use value_store::{Held, Nodes, Ref, Store, View};
-
-/// The greatest fuel of a run.
-const MAX_FUEL: u64 = 1_000_000_000_000;
 
 /// How many levels a type has at most.
 const MOST_LEVELS: u8 = 100;
-
-/// The function that the tests call: the first one.
-pub const FIRST: FunctionId = FunctionId(0);
-
-/// Whether there is a first function, of one int.
-fn takes_int(program: &Program) -> bool
-    ensures there { IsTrue result → 0 < length (meaning program.now).functions }
-    ensures int { IsTrue result → (function_at (meaning program.now) 0).parameters ≡ IntTy ∷ [] }
-{
-    if program.functions().is_empty() {
-        return false;
-    }
-    match program.function(FIRST).parameters.as_slice() {
-        [ty] => program.form(*ty) == TyForm::IntForm,
-        _ => false,
-    }
-}
 
 /// Whether a call of the first function on an int ends as expected on the machine, with so much fuel.
 ///
@@ -46,7 +22,7 @@ pub fn ends_as(
     fuel: u64,
     expected: &Outcome<Plain>,
 ) -> Result<bool, AllocError> {
-    if fuel > MAX_FUEL || !takes_int(code.program()) {
+    if fuel > MOST_FUEL || !takes_int(code.program()) {
         return Err(AllocError);
     }
     let mut store = Store::new(alloc, code.types().spelling_limit() as u32);
@@ -62,17 +38,6 @@ fn is_same_outcome(store: &Store, outcome: Outcome<Ref>, expected: &Outcome<Plai
         (Outcome::Trapped(trap), Outcome::Trapped(other)) => trap_word(trap) == trap_word(*other),
         (Outcome::Out, Outcome::Out) => true,
         _ => false,
-    }
-}
-
-/// A trap in a word.
-fn trap_word(trap: Trap) -> &'static str {
-    match trap {
-        Trap::Overflow => "overflow",
-        Trap::DivZero => "divzero",
-        Trap::TooBig => "toobig",
-        Trap::TooDeep => "toodeep",
-        Trap::Index => "index",
     }
 }
 

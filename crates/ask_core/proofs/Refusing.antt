@@ -10,7 +10,7 @@ use Rattle.session_tables.specs.Related.{AreSame}
 use Rattle.session_tables.proofs.Related.{find_related}
 use Rattle.ask_core.specs.Answers.{Refuses, fault_told}
 use Rattle.ask_core.specs.Clients.{IsClient, IsKnown, Stands}
-use Rattle.ask_core.specs.Turns.{greeting_refused, idle_known, idle_refused}
+use Rattle.ask_core.specs.Turns.{greeting_refused, idle_refused}
 use Rattle.ask_core.specs.declared.standing.Known.{Known}
 use Rattle.ask_core.specs.declared.standing.Standing.{Standing}
 use Rattle.ask_core.specs.declared.standing.Standing.TheVariants.{Greeting, Idle, Calling, Leaving, FailedBy, BrokenBy}
@@ -156,16 +156,6 @@ module _ (hash : Hash) (P : Program) (own : List ℕ) (closed : Option ℕ) (row
       ∙ ap (λ m. meant.hello_step P own m c n size state) none
 
 -- WHAT IS TAKEN OUT IS IDLE
-pub only_idle : (closed : Option ℕ) (s : Standing) (known : Option Known) → idle_refused closed (Some s) ≡ None → known ≡ idle_known s
-    → (k : Known) × (known ≡ Some k) × (s ≡ Idle k)
-only_idle (Some cause) s known e q = absurd (cc)
-only_idle None (Idle k) known e q = (k, q, refl)
-only_idle None (Greeting k) known e q = absurd (cc)
-only_idle None (Calling k asked) known e q = absurd (cc)
-only_idle None (Leaving k) known e q = absurd (cc)
-only_idle None (FailedBy cause) known e q = absurd (cc)
-only_idle None (BrokenBy kind) known e q = absurd (cc)
-
 pub idle_there : (closed : Option ℕ) (s : Option Standing) → idle_refused closed s ≡ None → (k : Known) × (s ≡ Some (Idle k))
 idle_there (Some cause) s e = absurd (cc)
 idle_there None None e = absurd (cc)

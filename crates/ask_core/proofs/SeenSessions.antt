@@ -1,9 +1,8 @@
 -- What is seen of all sessions, and what is called: `any_waits`, `any_calls`, `called`.
-use Rattle.std.proofs.Common.{◌≡◌, ℕ, Bool, true, false, ◌||◌, List, [], ◌∷◌, Option, Some, None, refl, sym, ap, subst, ◌∙◌}
+use Rattle.std.proofs.Common.{◌≡◌, ℕ, Bool, false, ◌||◌, List, [], ◌∷◌, Option, Some, None, refl, sym, ap, subst, ◌∙◌}
 use Rattle.std.specs.List.{list_any}
 use Rattle.core_terms.specs.Terms.{Program}
 use Rattle.core_terms.specs.Types.{Ty}
-use Rattle.session_meaning.specs.Calls.{reads_state, role_in}
 use Rattle.session_meaning.specs.Client as meant
 use Rattle.session_meaning.specs.Tables.{Numbered, find}
 use Rattle.session_tables.specs.Related.{AreRows, AreSame}
@@ -65,17 +64,6 @@ module _ (P : Program) where
       by (Leaving known) e = refl
       by (FailedBy cause) e = refl
       by (BrokenBy kind) e = refl
-
-  -- the role with the number that is called reads the state
-  pub one_called : (s : Standing) (m : meant.Standing) → Stands P s m → (n : ℕ) → standing_called s ≡ Some n
-      → (known : meant.Known) × (asked : meant.Asked) × (m ≡ meant.Calling known asked) × (asked.role ≡ n) × (reads_state (role_in P asked.role).kind ≡ true)
-  one_called (Calling known asked) (meant.Calling k a) r n e = (k, a, refl, r.1.role ∙ cc, r.1.reads)
-  one_called (Greeting known) m r n e = absurd (cc)
-  one_called (Idle known) m r n e = absurd (cc)
-  one_called (Leaving known) m r n e = absurd (cc)
-  one_called (FailedBy cause) m r n e = absurd (cc)
-  one_called (BrokenBy kind) m r n e = absurd (cc)
-  one_called s m r n e = elim r [ ]
 
   module _ (types : List Ty) (n : ℕ) (rows : List (Numbered Standing)) (sessions : List (Numbered meant.Standing)) (are : AreRows (Stands P) rows sessions) where
     pub seen_called : (s : Standing) (called : Option CalledRole) → find n rows ≡ Some s

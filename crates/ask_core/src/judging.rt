@@ -9,7 +9,6 @@ ghost use Rattle.ask_core.specs.declared.standing.Standing.TheVariants.{Calling}
 use crate::asked::Asked;
 use crate::checks::role_called;
 use crate::replied::Replied;
-use crate::reply_parts::PROOF;
 use crate::standing::{Known, Standing};
 use crate::states::state_behind;
 use crate::told::{AskFault, Told};
@@ -18,6 +17,7 @@ use core_terms::{Hash32, Piece};
 use lam_outside::Bytes;
 use std::alloc::{AllocError, Global};
 use verifier_mode::{Verdict, verify_on};
+use wire_form::kinds::PROOF;
 
 /// What follows of the frames of a proof of a call, judged on the ring of its session.
 pub fn proof_replied<H: Hash32>(

@@ -18,13 +18,13 @@ ghost use Rattle.ask_core.specs.declared.told.AskFault.TheVariants.{WrongReply};
 use crate::asked::Asked;
 use crate::checks::role_called;
 use crate::judging::proof_replied;
-use crate::reply_parts::{CLOSED, PROOF, REFUSED, STALE, WELCOME};
 use crate::standing::{Known, Standing};
 use crate::told::{AskFault, Told};
 use code_gen::Code;
 use core_terms::{Hash32, Piece, Program, RoleKind};
 use std::alloc::{AllocError, Global};
 use wire_form::Reply;
+use wire_form::kinds::{CLOSED, PROOF, REFUSED, STALE, WELCOME};
 
 /// The cause of a refusal: there is no such session.
 const NO_SESSION: u8 = 3;

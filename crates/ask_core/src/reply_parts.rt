@@ -6,21 +6,6 @@ ghost use Rattle.wire_form.specs.MessageViews.{reply_meant};
 
 use wire_form::Reply;
 
-/// The kind of a welcome, as a message has it.
-pub const WELCOME: u8 = 0x81;
-
-/// The kind of a proof.
-pub const PROOF: u8 = 0x82;
-
-/// The kind of what a stale update is answered.
-pub const STALE: u8 = 0x83;
-
-/// The kind of a refusal.
-pub const REFUSED: u8 = 0x84;
-
-/// The kind of an end.
-pub const CLOSED: u8 = 0x85;
-
 /// The number of the session that it is to; 0 where it is to none.
 pub fn session_of(reply: &Reply) -> u16
     ensures { result ≡ session_of (reply_meant reply.now) }

@@ -1,6 +1,7 @@
 -- The arguments of a script's calls are of bytes: for the law `arguments_are_bytes`.
 use Rattle.std.proofs.Common.{◌≡◌, ℕ, ◌<◌, ◌^◌, true, List, [], ◌∷◌, Option, Some, None, option_map, bytes_eq, codes, refl, subst}
 use Rattle.std.specs.Str.{is_utf8}
+use Rattle.core_terms.specs.Limits.{most_fuel}
 use Rattle.core_terms.specs.Spelling.{AreBytes, spelling}
 use Rattle.core_terms.specs.Terms.{Program}
 use Rattle.core_terms.specs.Types.{Ty, has_tags}
@@ -9,7 +10,7 @@ use Rattle.number_words.specs.Numbers.{number_within}
 use Rattle.printed_syntax.specs.Literals.{ConstructorNames, Literal, IsValue, FirstFault, literal_in}
 use Rattle.printed_syntax.proofs.LiteralsReadBack.{literals_are_read_back}
 use Rattle.session_meaning.specs.Calls.{role_in}
-use Rattle.ask_script.specs.Scripts.{HasByteArgument, UserStep, Opens, Calls, Goes, Closes, calls, form_of, lines_of, most_fuel, opens, role_called, session_in, spelled, step_in, text_of, words_of}
+use Rattle.ask_script.specs.Scripts.{HasByteArgument, UserStep, Opens, Calls, Goes, Closes, calls, form_of, lines_of, opens, role_called, session_in, spelled, step_in, text_of, words_of}
 use Rattle.ask_script.specs.ScriptLaws.{ArgumentsAreBytes}
 use Rattle.ask_script.proofs.FittingSteps.{asked, script_has}
 use Rattle.ask_script.proofs.SpelledBytes.{spelled_bytes}

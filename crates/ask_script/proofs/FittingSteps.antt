@@ -6,12 +6,13 @@ use Rattle.std.specs.Str.{is_utf8}
 use Rattle.std.proofs.lemmas.List.Elements.{All-cons, All-head, All-nil, All-tail}
 use Rattle.core_terms.specs.Terms.{Program}
 use Rattle.core_terms.specs.Roles.{Role, program_roles}
+use Rattle.core_terms.specs.Limits.{most_fuel}
 use Rattle.std.specs.List.{position}
 use Rattle.session_meaning.specs.Calls.{reads_state, role_in}
 use Rattle.printed_syntax.specs.Literals.{ConstructorNames, literal_in}
 use Rattle.number_words.specs.Numbers.{number_within}
 use Rattle.number_words.proofs.Numbers.{number_at_most}
-use Rattle.ask_script.specs.Scripts.{Fits, UserStep, Opens, Calls, Goes, Closes, Script, Steps, FaultyLine, calls, form_of, is_blank_line, most_fuel, opens, query_or_update, role_called, script_from, session_in, spelled, step_in, text_of, then_script, words_of}
+use Rattle.ask_script.specs.Scripts.{Fits, UserStep, Opens, Calls, Goes, Closes, Script, Steps, FaultyLine, calls, form_of, is_blank_line, opens, query_or_update, role_called, script_from, session_in, spelled, step_in, text_of, then_script, words_of}
 use Rattle.ask_script.proofs.Sessions.{session_fits}
 
 -- what is asked for under a condition, is asked for without one

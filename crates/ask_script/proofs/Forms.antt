@@ -6,10 +6,11 @@ use Rattle.std.proofs.lemmas.Slice.Eq.{bytes_eq-Decides}
 use Rattle.core_terms.specs.Types.{Ty}
 use Rattle.std.specs.Prelude.{nat_le}
 use Rattle.core_terms.specs.Terms.{Program}
+use Rattle.core_terms.specs.Limits.{most_fuel}
 use Rattle.printed_syntax.specs.Literals.{ConstructorNames, literal_in}
 use Rattle.number_words.specs.Numbers.{number_within}
 use Rattle.session_meaning.specs.Calls.{role_in}
-use Rattle.ask_script.specs.Scripts.{UserStep, Calls, Closes, calls, form_of, most_fuel, most_session, opens, role_called, session_in, spelled, text_of, words_of}
+use Rattle.ask_script.specs.Scripts.{UserStep, Calls, Closes, calls, form_of, most_session, opens, role_called, session_in, spelled, text_of, words_of}
 use Rattle.ask_script.proofs.CutWords.{some_word, text_back, word_alone, words_no_number}
 
 -- no session, where there are more words than one
@@ -21,17 +22,11 @@ opens_no_pieces : (session : Option ℕ) → opens session None ≡ None
 opens_no_pieces (Some n) = refl
 opens_no_pieces None = refl
 
-pub opens_no_session : (kept : Option ℕ) → opens None kept ≡ None
-opens_no_session kept = refl
-
 module _ (P : Program) (names : ConstructorNames) where
   abbrev of : List (List ℕ) → Option UserStep
   of = form_of P names
 
   -- ---- lines that open
-  pub open_one : (text : List ℕ) → words_of text ≡ text ∷ [] → of (codes "open" ∷ words_of text) ≡ None
-  open_one text is = ap (λ words. of (codes "open" ∷ words)) is
-
   open_rest : (session kept : List ℕ) (words : List (List ℕ)) → words_of kept ≡ words
       → of (codes "open" ∷ session ∷ words) ≡ opens (session_in session) (number_within P.format.most_kept kept)
   open_rest session kept [] are = absurd (some_word kept are)
@@ -57,16 +52,6 @@ module _ (P : Program) (names : ConstructorNames) where
   close_form text = close_rest text (words_of text) refl
 
   -- ---- lines that call
-  pub call_one : (text : List ℕ) → words_of text ≡ text ∷ [] → of (codes "call" ∷ words_of text) ≡ None
-  call_one text is = ap (λ words. of (codes "call" ∷ words)) is
-
-  pub call_two : (text a b : List ℕ) → words_of text ≡ a ∷ words_of b → words_of b ≡ b ∷ [] → of (codes "call" ∷ words_of text) ≡ None
-  call_two text a b are is = ap (λ words. of (codes "call" ∷ words)) (are ∙ ap (λ words. a ∷ words) is)
-
-  pub call_three : (text a b c d : List ℕ) → words_of text ≡ a ∷ words_of b → words_of b ≡ c ∷ words_of d → words_of d ≡ d ∷ []
-      → of (codes "call" ∷ words_of text) ≡ None
-  call_three text a b c d are more is = ap (λ words. of (codes "call" ∷ words)) (are ∙ ap (λ words. a ∷ words) (more ∙ ap (λ words. c ∷ words) is))
-
   call_rest : (session role fuel argument : List ℕ) (words : List (List ℕ)) → words_of argument ≡ words
       → of (codes "call" ∷ session ∷ role ∷ fuel ∷ words) ≡ calls P names (session_in session) (role_called P role) (number_within most_fuel fuel) (text_of words)
   call_rest session role fuel argument [] are = absurd (some_word argument are)

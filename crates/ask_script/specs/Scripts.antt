@@ -7,6 +7,7 @@ use lib.Dec.{eqb}
 use Rattle.core_terms.specs.Terms.{Program}
 use Rattle.core_terms.specs.Roles.{Role, program_roles}
 use Rattle.core_terms.specs.Spelling.{AreBytes, spelling}
+use Rattle.core_terms.specs.Limits.{most_fuel}
 use Rattle.session_meaning.specs.Calls.{reads_state, role_in}
 use Rattle.printed_syntax.specs.Literals.{ConstructorNames, Literal, IsValue, FirstFault, literal_in}
 use Rattle.number_words.specs.Numbers.{number_within}
@@ -47,12 +48,9 @@ abbrev pub text_of : List (List ℕ) → List ℕ
 text_of words = join_with_byte 32 words
 
 -- NUMBERS, ROLES, ARGUMENTS
--- the greatest number of a session, and the greatest amount of fuel, 10^12
+-- the greatest number of a session
 abbrev pub most_session : ℕ
 most_session = 65535
-
-abbrev pub most_fuel : ℕ
-most_fuel = 1000000000000
 
 -- the number of a session, from 1 on
 abbrev pub session_in : List ℕ → Option ℕ

@@ -1,18 +1,19 @@
 // Lines that call.
 ghost use Rattle.std.specs.Prelude.{◌≡◌, ◌∷◌, Some, None, List, ℕ, codes, option_map, IfOk, IfSome, IsNone};
+ghost use Rattle.core_terms.specs.Limits.{most_fuel};
 ghost use Rattle.core_terms.specs.Programs.{constructor_names, meaning, types_of};
 ghost use Rattle.core_terms.specs.Terms as tree;
 ghost use Rattle.core_terms.specs.TypeTables.{type_at};
 ghost use Rattle.number_words.specs.Numbers.{number_within};
 ghost use Rattle.printed_syntax.specs.Literals.{ConstructorNames, literal_in};
 ghost use Rattle.session_meaning.specs.Calls.{role_in};
-ghost use Rattle.ask_script.specs.Scripts.{calls, form_of, most_fuel, role_called, session_in, spelled, words_of};
+ghost use Rattle.ask_script.specs.Scripts.{calls, form_of, role_called, session_in, spelled, words_of};
 ghost use Rattle.ask_script.specs.ScriptAnswers.{step_meant};
 
 use crate::Step;
 use crate::words::{cut_word, read_session};
 use core_terms::roles::place_of;
-use core_terms::{Fault, Program, RoleKind, Spelling, TyId};
+use core_terms::{Fault, MOST_FUEL, Program, RoleKind, Spelling, TyId};
 use number_words::read_number;
 use printed_syntax::literal::parse_literal;
 use std::alloc::{AllocError, Global};
@@ -35,9 +36,6 @@ struct Called {
     argument: TyId,
     fuel: u64,
 }
-
-/// The greatest amount of fuel.
-const MOST_FUEL: u64 = 1_000_000_000_000;
 
 /// The step of a line that calls, from the words behind the first; none where the line is at fault.
 pub fn read_call(alloc: Global, program: &Program, words: &str) -> Result<Option<Step>, AllocError>

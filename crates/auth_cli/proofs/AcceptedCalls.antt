@@ -16,17 +16,17 @@ use Rattle.ideal_meaning.specs.Ideal.{ideal, outcome, outcome_projection}
 use Rattle.ideal_meaning.proofs.Companion.{companion}
 use Rattle.printed_syntax.specs.LiteralLaws.{IsLiteralValue}
 use Rattle.printed_syntax.proofs.LiteralsReadBack.{literals_are_read_back}
-use Rattle.file_commands.specs.OutcomeAnswers.{state_projection}
-use Rattle.file_commands.specs.RoleInputs.{role_verdict}
-use Rattle.file_commands.specs.FileInputs.{image_read}
-use Rattle.file_commands.specs.IdealCalls.{IdealCall, call_pieces, call_proof, called_program, projected_outcome}
-use Rattle.file_commands.specs.NamedCalls.{NamesInputs, NamesRole}
-use Rattle.file_commands.specs.ProvedCalls.{IsAcceptedCall}
-use Rattle.file_commands.specs.RoleCalls.{named_literal, outcome_called, type_passed}
-use Rattle.file_commands.specs.declared.roles.Callee.TheVariants.{OfState}
+use Rattle.command_parts.specs.OutcomeAnswers.{state_projection}
+use Rattle.command_parts.specs.RoleInputs.{role_verdict}
+use Rattle.command_parts.specs.FileInputs.{image_read}
+use Rattle.command_parts.specs.IdealCalls.{IdealCall, call_pieces, call_proof, called_program, projected_outcome}
+use Rattle.call_commands.specs.NamedCalls.{NamesInputs, NamesRole}
+use Rattle.call_commands.specs.ProvedCalls.{IsAcceptedCall}
+use Rattle.command_parts.specs.RoleCalls.{named_literal, outcome_called, type_passed}
+use Rattle.command_parts.specs.declared.roles.Callee.TheVariants.{OfState}
 use Rattle.images.proofs.ImageRoots.{IsKept, root_is_kept}
-use Rattle.file_commands.proofs.OnProofs.{passed_behind}
-use Rattle.file_commands.proofs.SoundRoles.{IsReader, named_reader}
+use Rattle.call_commands.proofs.OnProofs.{passed_behind}
+use Rattle.call_commands.proofs.SoundRoles.{IsReader, named_reader}
 
 -- A call of a role that reads a state, on an ideal state and an ideal argument within the limits; nothing is authenticated in the argument.
 pub record IsMeant (call : IdealCall) : Type 0 where

@@ -6,12 +6,12 @@ use Rattle.std.specs.Prelude.{codes}
 use Rattle.std.specs.Option.{ForSome}
 use Rattle.lam_outside.specs.Causes.{Rose}
 use Rattle.lam_outside.specs.Told.{AddsStores, Contents, Stores}
-use Rattle.file_commands.specs.AnswerForms.{Answer}
-use Rattle.file_commands.specs.Codes.{code}
-use Rattle.file_commands.specs.Ending.{EndsAnswered, EndsAs, IsToldAs, IsToldByCode, MayWrite, NoneRose, StoresSome, WritesPart, lines_of, no_memory_text}
-use Rattle.file_commands.specs.Outsides.{Outside}
-use Rattle.file_commands.specs.declared.status.Status.{Status}
-use Rattle.file_commands.specs.declared.status.Status.TheVariants as status
+use Rattle.command_parts.specs.AnswerForms.{Answer}
+use Rattle.command_parts.specs.Codes.{code}
+use Rattle.command_parts.specs.Ending.{EndsAnswered, EndsAs, IsToldAs, IsToldByCode, MayWrite, NoneRose, StoresSome, WritesPart, lines_of, no_memory_text}
+use Rattle.command_parts.specs.Outsides.{Outside}
+use Rattle.command_parts.specs.declared.status.Status.{Status}
+use Rattle.command_parts.specs.declared.status.Status.TheVariants as status
 use Rattle.lam_outside.proofs.Moved.{append_none}
 
 by_code : (found : Option Answer) (old new : Outside) (ended : Status) → IsToldAs found old new ended → IsToldByCode found old new (code ended)

@@ -8,6 +8,7 @@ use Rattle.command_words.specs.Invocations.{Invocation, calls}
 use Rattle.command_words.specs.declared.command.Command.{Command}
 use Rattle.command_words.specs.declared.command.Command.TheVariants.{Audit, Prove}
 use Rattle.lam_outside.specs.Told.{Contents}
+use Rattle.core_terms.specs.Limits.{most_file_bytes}
 use Rattle.core_terms.specs.Reading.{Read, Good, BadAt}
 use Rattle.core_terms.specs.Roles.{role_named}
 use Rattle.core_terms.specs.Spelling.{spelling}
@@ -26,29 +27,29 @@ use Rattle.auth_types.specs.CheckedPrograms.{Checked, checked}
 use Rattle.auth_types.specs.CheckedPrograms as checking
 use Rattle.object_meaning.specs.Accepting.{Acceptance, accepting}
 use Rattle.object_meaning.specs.Accepting as object
-use Rattle.file_commands.specs.Answer.{answer_with, audited_answer, call_audit_answer, command_answer, fetched_answer, judged_answer, mirror_read, mirrored_answer, proof_answer, proved_answer, verified_answer}
-use Rattle.file_commands.specs.AcceptedAnswers.{callee_of}
-use Rattle.file_commands.specs.RoleInputs.{RoleCall, with_fueled_role, with_ideal_call, with_passed, with_role_at, with_role_call}
-use Rattle.file_commands.specs.FileInputs.{image_read, max_file, state_read, with_bytes, with_file, with_fuel, with_image, with_program_bytes, with_program_file, with_object_or_text, with_literal, with_number, with_program, with_root, with_state, with_state_read}
-use Rattle.file_commands.specs.AnswerForms.{Answer}
-use Rattle.file_commands.specs.RefusedAnswers.{input_refused, refusal_status, refused}
-use Rattle.file_commands.specs.Answer.{with_kept, with_mirror, with_mirror_file, with_pieces}
-use Rattle.file_commands.specs.Arguments.{fuel_of}
+use Rattle.command_parts.specs.Answer.{answer_with, audited_answer, call_audit_answer, command_answer, fetched_answer, judged_answer, mirror_read, mirrored_answer, proof_answer, proved_answer, verified_answer}
+use Rattle.command_parts.specs.AcceptedAnswers.{callee_of}
+use Rattle.command_parts.specs.RoleInputs.{RoleCall, with_fueled_role, with_ideal_call, with_passed, with_role_at, with_role_call}
+use Rattle.command_parts.specs.FileInputs.{image_read, state_read, with_bytes, with_file, with_fuel, with_image, with_program_bytes, with_program_file, with_object_or_text, with_literal, with_number, with_program, with_root, with_state, with_state_read}
+use Rattle.command_parts.specs.AnswerForms.{Answer}
+use Rattle.command_parts.specs.RefusedAnswers.{input_refused, refusal_status, refused}
+use Rattle.command_parts.specs.Answer.{with_kept, with_mirror, with_mirror_file, with_pieces}
+use Rattle.command_parts.specs.Arguments.{fuel_of}
 use Rattle.number_words.specs.Numbers.{number_within}
-use Rattle.file_commands.specs.AuditedCalls.{CallsAudit, TellsAnAudit}
-use Rattle.file_commands.specs.Codes.{code}
-use Rattle.file_commands.specs.FilePrograms.{begins_as_object, constructor_names_of_file, longest_program, of_acceptance, program_of_file, program_of_object}
-use Rattle.file_commands.specs.FueledRoles.{DigestedProgram, FueledRole, NamedProgram}
-use Rattle.file_commands.specs.IdealCalls.{IdealCall}
-use Rattle.file_commands.specs.NamedCalls.{KeepsProgram, NamesInputs, NamesRole}
-use Rattle.file_commands.specs.NamedPrograms.{named_program}
-use Rattle.file_commands.specs.ProvedCalls.{CallsProve}
-use Rattle.file_commands.specs.RoleCalls.{is_called, passed_literal, program_called}
-use Rattle.file_commands.specs.TextPrograms.{FileProgram, IsProgram, IsRefused, of_checked, of_parsed, program_of_text}
-use Rattle.file_commands.specs.TrueLines.{TellsOutcome}
-use Rattle.file_commands.specs.declared.roles.Callee.{Callee}
-use Rattle.file_commands.specs.declared.roles.Callee.TheVariants.{OfState}
-use Rattle.file_commands.specs.declared.status.Status.TheVariants.{ProgramRefused}
+use Rattle.call_commands.specs.AuditedCalls.{CallsAudit, TellsAnAudit}
+use Rattle.command_parts.specs.Codes.{code}
+use Rattle.command_parts.specs.FilePrograms.{begins_as_object, constructor_names_of_file, longest_program, of_acceptance, program_of_file, program_of_object}
+use Rattle.command_parts.specs.FueledRoles.{DigestedProgram, FueledRole, NamedProgram}
+use Rattle.command_parts.specs.IdealCalls.{IdealCall}
+use Rattle.call_commands.specs.NamedCalls.{KeepsProgram, NamesInputs, NamesRole}
+use Rattle.call_commands.specs.NamedPrograms.{named_program}
+use Rattle.call_commands.specs.ProvedCalls.{CallsProve}
+use Rattle.command_parts.specs.RoleCalls.{is_called, passed_literal, program_called}
+use Rattle.command_parts.specs.TextPrograms.{FileProgram, IsProgram, IsRefused, of_checked, of_parsed, program_of_text}
+use Rattle.call_commands.specs.TrueLines.{TellsOutcome}
+use Rattle.command_parts.specs.declared.roles.Callee.{Callee}
+use Rattle.command_parts.specs.declared.roles.Callee.TheVariants.{OfState}
+use Rattle.command_parts.specs.declared.status.Status.TheVariants.{ProgramRefused}
 
 -- the numbers of refusals and faults are none of an outcome, of a rejection or of a collision
 pub no_outcome : (n : ℕ) → 4 < n → TellsOutcome n → ⊥
@@ -187,7 +188,7 @@ module _ (a : Answer) (tells : TellsAnAudit (code a.status)) where
       × IsAnswer (go (record { role = r; state = s; argument = x }))
   inputs_are_named r image argument files go is =
       let on_state : Value → Option Answer = λ s. with_passed r argument (λ x. go (record { role = r; state = s; argument = x })) in
-      let read = file_read max_file named.Image (files image) (λ bytes. with_image r.program.digested bytes on_state) is in
+      let read = file_read most_file_bytes named.Image (files image) (λ bytes. with_image r.program.digested bytes on_state) is in
       let root = root_read (image_read r.program.digested read.0) on_state read.3 in
       let passed = literal_read (passed_literal r argument) (λ x. go (record { role = r; state = root.0; argument = x })) root.2 in
       (root.0, passed.0, record { image_file = record { image = read.0; there = read.1; fits = read.2; root = root.1 }; argument = passed.1 }, passed.2)
@@ -199,7 +200,7 @@ module _ (a : Answer) (tells : TellsAnAudit (code a.status)) where
   spelled_are_named r state argument files go is =
       let P = program_called r in
       let on_state : List ℕ → Option Answer = λ s. with_passed r argument (λ x. go (record { role = r; state = s; argument = spelling x })) in
-      let read = file_read max_file named.State (files state) (λ bytes. with_state P bytes on_state) is in
+      let read = file_read most_file_bytes named.State (files state) (λ bytes. with_state P bytes on_state) is in
       let behind = state_is_read (state_read P read.0) read.0 on_state read.3 in
       let passed = literal_read (passed_literal r argument) (λ x. go (record { role = r; state = read.0; argument = spelling x })) behind in
       (read.0, passed.0, read.1, passed.1, passed.2)
@@ -310,6 +311,6 @@ module _ (a : Answer) (tells : TellsAnAudit (code a.status)) where
       let inputs = spelled_are_named role_is.0 state argument files on_call role_is.2 in
       let call : RoleCall = record { role = role_is.0; state = inputs.0; argument = spelling inputs.1 } in
       let told : List (List ℕ) → Option Answer = λ pieces. Some (mirrored_answer call pieces) in
-      let read = file_read max_file named.Mirror (files mirror) (λ bytes. with_mirror bytes told) inputs.4 in
+      let read = file_read most_file_bytes named.Mirror (files mirror) (λ bytes. with_mirror bytes told) inputs.4 in
       let held = pieces_read (mirror_read read.0) told read.3 in
       (role_is.0, inputs.0, inputs.1, read.0, held.0, role_is.1, inputs.2, inputs.3, read.1, held.1, held.2)

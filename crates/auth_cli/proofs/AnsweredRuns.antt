@@ -8,24 +8,24 @@ use Rattle.command_words.specs.Invocations.{Invocation, invocation_of}
 use Rattle.command_words.specs.declared.command.Command.TheVariants.{Audit, Prove}
 use Rattle.ideal_meaning.specs.Ideal.{Outcome, Done, Trapped, Out}
 use Rattle.collision_audit.specs.Splits.{Split}
-use Rattle.file_commands.specs.Answer.{answer, call_audit_answer, called_answer, command_answer, proof_answer}
-use Rattle.file_commands.specs.AcceptedAnswers.{shallow_told}
-use Rattle.file_commands.specs.AnswerForms.{Answer}
+use Rattle.command_parts.specs.Answer.{answer, call_audit_answer, called_answer, command_answer, proof_answer}
+use Rattle.command_parts.specs.AcceptedAnswers.{shallow_told}
+use Rattle.command_parts.specs.AnswerForms.{Answer}
 use Rattle.number_words.specs.Numbers.{is_number, number_within}
-use Rattle.file_commands.specs.AuditedCalls.{CallsAudit, IsAudited, SplitsAt, TellsAnAudit}
-use Rattle.file_commands.specs.Codes.{code}
-use Rattle.file_commands.specs.Ending.{EndsAnswered, EndsAs, IsOfFault, IsToldAs}
-use Rattle.file_commands.specs.Outsides.{Outside}
-use Rattle.file_commands.specs.FueledRoles.{FueledRole}
-use Rattle.file_commands.specs.IdealCalls.{IdealCall, call_audit, called_program, projected_outcome}
-use Rattle.file_commands.specs.ProvedCalls.{CallsProve, IsProved}
-use Rattle.file_commands.specs.TrueLines.{TellsOutcome}
-use Rattle.file_commands.specs.declared.status.Status.{Status}
-use Rattle.file_commands.specs.declared.status.Status.TheVariants as status
+use Rattle.call_commands.specs.AuditedCalls.{CallsAudit, IsAudited, SplitsAt, TellsAnAudit}
+use Rattle.command_parts.specs.Codes.{code}
+use Rattle.command_parts.specs.Ending.{EndsAnswered, EndsAs, IsOfFault, IsToldAs}
+use Rattle.command_parts.specs.Outsides.{Outside}
+use Rattle.command_parts.specs.FueledRoles.{FueledRole}
+use Rattle.command_parts.specs.IdealCalls.{IdealCall, call_audit, called_program, projected_outcome}
+use Rattle.call_commands.specs.ProvedCalls.{CallsProve, IsProved}
+use Rattle.call_commands.specs.TrueLines.{TellsOutcome}
+use Rattle.command_parts.specs.declared.status.Status.{Status}
+use Rattle.command_parts.specs.declared.status.Status.TheVariants as status
 use Rattle.auth_cli.proofs.AcceptedCalls.{call_is_accepted, call_is_meant}
 use Rattle.auth_cli.proofs.AnsweredCalls.{audit_means, no_audit, prove_means}
 use Rattle.auth_cli.proofs.AuditedRuns.{audit_says, split_is_told}
-use Rattle.file_commands.proofs.GoingOn.{audit_is_answered, proof_is_answered}
+use Rattle.call_commands.proofs.GoingOn.{audit_is_answered, proof_is_answered}
 use Rattle.auth_cli.proofs.TrueAudits.{true_audit}
 use Rattle.auth_cli.proofs.VerifiedCalls.{call_is_verified}
 

@@ -7,9 +7,9 @@ use Rattle.core_terms.proofs.LawProofs.{typing_test_is_exact}
 use Rattle.ask_script.proofs.ByteArguments.{arguments_are_bytes}
 use Rattle.script_play.proofs.Runs.{plays_tell_truth}
 use Rattle.session_meaning.proofs.ClientRun.{told_is_true}
-use Rattle.file_commands.specs.Answer.{Asking}
-use Rattle.auth_cli.specs.Asking.{IsOfSources, TellsTrueOutcomes}
-use Rattle.file_commands.proofs.SoundFiles.{file_is_sound, file_tags, sound_format}
+use Rattle.command_parts.specs.Answer.{Asking}
+use Rattle.net_commands.specs.Asking.{IsOfSources, TellsTrueOutcomes}
+use Rattle.command_parts.proofs.SoundFiles.{file_is_sound, file_tags, sound_format}
 
 -- whatever replies come
 pub asked_truth : (a : Asking) → IsOfSources a → TellsTrueOutcomes a

@@ -10,13 +10,13 @@ use Rattle.printed_lines.specs.Lines.{collision_line, rejected_line}
 use Rattle.collision_audit.specs.Audits.{Audit, Collides, Judges, unless_split, verdict_on_projections}
 use Rattle.collision_audit.specs.Splits.{Split, offered_in}
 use Rattle.collision_audit.proofs.FirstSplits.{split_is_found}
-use Rattle.file_commands.specs.Answer.{agreeing, audit_told, call_audit_answer}
-use Rattle.file_commands.specs.AcceptedAnswers.{shallow_told}
-use Rattle.file_commands.specs.AuditedCalls.{AgreesOnOutcome, AuditSays, SplitsAt}
-use Rattle.file_commands.specs.IdealCalls.{IdealCall, call_audit, called_program, values_called}
-use Rattle.file_commands.specs.declared.status.Status.{Status}
-use Rattle.file_commands.specs.declared.status.Status.TheVariants as status
-use Rattle.file_commands.proofs.Ends.{one_line}
+use Rattle.command_parts.specs.Answer.{agreeing, audit_told, call_audit_answer}
+use Rattle.command_parts.specs.AcceptedAnswers.{shallow_told}
+use Rattle.call_commands.specs.AuditedCalls.{AgreesOnOutcome, AuditSays, SplitsAt}
+use Rattle.command_parts.specs.IdealCalls.{IdealCall, call_audit, called_program, values_called}
+use Rattle.command_parts.specs.declared.status.Status.{Status}
+use Rattle.command_parts.specs.declared.status.Status.TheVariants as status
+use Rattle.command_parts.proofs.Ends.{one_line}
 use Rattle.auth_cli.proofs.TrueAudits.{IsTrueAudit}
 
 -- an audit that agrees says what it agrees on, with the status of an outcome

@@ -2,16 +2,17 @@
 use Rattle.std.proofs.Common.{◌≡◌, ◌⊎◌, inl, inr, ℕ, List, Option, Some, None, Err, refl, sym, ◌∙◌, subst}
 use Rattle.command_words.specs.Invocations.{Invocation, invocation_of}
 use Rattle.lam_outside.specs.Told.{Contents, Names}
-use Rattle.file_commands.specs.Answer.{answer, called_answer, command_answer}
-use Rattle.file_commands.specs.Codes.{code}
-use Rattle.file_commands.specs.Ending.{EndsAs, IsOfRefused}
-use Rattle.file_commands.specs.Outsides.{Outside}
-use Rattle.file_commands.specs.Reaching.{IsReached}
-use Rattle.file_commands.specs.Statuses.{MayAnswer}
-use Rattle.file_commands.specs.Telling.{Tells}
-use Rattle.file_commands.specs.declared.report.Halt.TheVariants.{Usage, NoMemory}
-use Rattle.file_commands.specs.declared.status.Status.{Status}
-use Rattle.file_commands.specs.declared.status.Status.TheVariants as status
+use Rattle.command_parts.specs.Answer.{answer, called_answer, command_answer}
+use Rattle.command_parts.specs.Codes.{code}
+use Rattle.command_parts.specs.Ending.{EndsAs}
+use Rattle.command_parts.specs.EndingInCode.{IsOfRefused}
+use Rattle.command_parts.specs.Outsides.{Outside}
+use Rattle.command_parts.specs.Reaching.{IsReached}
+use Rattle.command_parts.specs.Statuses.{MayAnswer}
+use Rattle.command_parts.specs.TellingInCode.{Tells}
+use Rattle.command_parts.specs.declared.report.Halt.TheVariants.{Usage, NoMemory}
+use Rattle.command_parts.specs.declared.status.Status.{Status}
+use Rattle.command_parts.specs.declared.status.Status.TheVariants as status
 
 -- words that call a command aren't refused
 pub none_refused : (words : List (List ℕ)) (called : Invocation) (status : Status) → invocation_of words ≡ Some called → invocation_of words ≡ None → IsOfRefused status

@@ -12,14 +12,14 @@ use Rattle.ideal_meaning.specs.Frames.{offered_pieces}
 use Rattle.ideal_meaning.specs.Headline.{call_values}
 use Rattle.ideal_meaning.specs.Run.{state_of}
 use Rattle.ideal_meaning.proofs.Fetching.{fetch_headline}
-use Rattle.file_commands.specs.Answer.{Drawing}
-use Rattle.file_commands.specs.RoleCalls.{kind_called, program_called}
-use Rattle.file_commands.specs.declared.roles.Callee.TheVariants.{OfState}
-use Rattle.file_commands.proofs.RoleShapes.{calls_reads}
-use Rattle.file_commands.proofs.RolesByName.{role_within}
-use Rattle.file_commands.proofs.SoundRoles.{reader, sound_whole}
-use Rattle.file_commands.proofs.SoundFiles.{file_is_sound}
-use Rattle.auth_cli.specs.Drawing.{DrawsTrueOutcomes, IsOfSources, IsOfWords}
+use Rattle.command_parts.specs.Answer.{Drawing}
+use Rattle.command_parts.specs.RoleCalls.{kind_called, program_called}
+use Rattle.command_parts.specs.declared.roles.Callee.TheVariants.{OfState}
+use Rattle.command_parts.proofs.RoleShapes.{calls_reads}
+use Rattle.call_commands.proofs.RolesByName.{role_within}
+use Rattle.call_commands.proofs.SoundRoles.{reader, sound_whole}
+use Rattle.command_parts.proofs.SoundFiles.{file_is_sound}
+use Rattle.net_commands.specs.Drawing.{DrawsTrueOutcomes, IsOfSources, IsOfWords}
 
 -- the role is one that the texts name
 named : (texts : List (List ℕ)) (d : Drawing) → IsOfWords texts d → (name : List ℕ) × (role_named (program_called d.call.role) name ≡ Some d.call.role.role)

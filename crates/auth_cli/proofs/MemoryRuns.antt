@@ -11,25 +11,27 @@ use Rattle.std.specs.Str.{bytes_eq}
 use Rattle.ideal_meaning.specs.Examples.{unit_program}
 use Rattle.lam_outside.specs.Causes.{Rose}
 use Rattle.lam_outside.specs.Told.{Contents}
-use Rattle.file_commands.specs.Answer.{Founding, answer_with}
-use Rattle.file_commands.specs.AnswerForms.{Answer}
-use Rattle.file_commands.specs.RefusedAnswers.{usage_answer}
-use Rattle.file_commands.specs.Ending.{EndsAs, IsOfRefused}
-use Rattle.file_commands.specs.Outsides.{Outside}
-use Rattle.file_commands.specs.Telling.{Tells}
-use Rattle.file_commands.specs.declared.report.Halt.TheVariants.{NoMemory}
-use Rattle.file_commands.specs.declared.status.Status.{Status}
-use Rattle.file_commands.specs.declared.status.Status.TheVariants as status
-use Rattle.file_commands.proofs.Ends.{ends_as}
-use Rattle.file_commands.proofs.Words.{counted, least_of, most_of}
+use Rattle.command_parts.specs.Answer.{Founding, answer_with}
+use Rattle.command_parts.specs.AnswerForms.{Answer}
+use Rattle.command_parts.specs.RefusedAnswers.{usage_answer}
+use Rattle.command_parts.specs.Ending.{EndsAs}
+use Rattle.command_parts.specs.EndingInCode.{IsOfRefused}
+use Rattle.command_parts.specs.Outsides.{Outside}
+use Rattle.command_parts.specs.TellingInCode.{Tells}
+use Rattle.command_parts.specs.declared.report.Halt.TheVariants.{NoMemory}
+use Rattle.command_parts.specs.declared.status.Status.{Status}
+use Rattle.command_parts.specs.declared.status.Status.TheVariants as status
+use Rattle.command_parts.proofs.Ends.{ends_as}
+use Rattle.command_parts.proofs.Words.{counted, least_of, most_of}
 use Rattle.journal_commands.specs.DiskCounts.{DiskCountsBy}
 use Rattle.journal_commands.specs.DisksSeen.{DiskSeen, with_disk}
 use Rattle.journal_commands.specs.Founding.{EndsFounding, LeavesDisk}
 use Rattle.journal_commands.specs.Replaying.{EndsReplaying}
-use Rattle.auth_cli.specs.HostCounts.{HostCountsBy}
-use Rattle.auth_cli.specs.Hosting.{EndsUnhosted}
-use Rattle.auth_cli.specs.NetRuns.{EndsCommand, EndsRun}
-use Rattle.auth_cli.specs.OnlineRuns.{CountsBy, NetSeen}
+use Rattle.net_commands.specs.HostCounts.{HostCountsBy}
+use Rattle.net_commands.specs.Hosting.{EndsUnhosted}
+use Rattle.auth_cli.specs.RunsInCode.{EndsCommand, EndsRun}
+use Rattle.net_commands.specs.OnlineRuns.{NetSeen}
+use Rattle.net_commands.specs.NetCounts.{CountsBy}
 use Rattle.auth_cli.proofs.Called.{memory_told}
 
 -- ---- how many texts stand behind a command

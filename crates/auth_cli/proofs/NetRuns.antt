@@ -6,20 +6,22 @@ use Rattle.command_words.specs.declared.command.Command.{Command}
 use Rattle.command_words.specs.declared.command.Command.TheVariants.{Ask, Draw, Found, Host, Mirror, Replay, Serve}
 use Rattle.lam_outside.specs.Causes.{Rose}
 use Rattle.lam_outside.specs.Told.{Contents, Names}
-use Rattle.file_commands.specs.Answer.{answer, answer_with, called_answer}
-use Rattle.file_commands.specs.AnswerForms.{Answer}
-use Rattle.file_commands.specs.RefusedAnswers.{usage_answer}
-use Rattle.file_commands.specs.Codes.{code}
-use Rattle.file_commands.specs.Ending.{EndsAs}
-use Rattle.file_commands.specs.Outsides.{Outside}
-use Rattle.file_commands.specs.Reaching.{IsReached, ReachedAt}
-use Rattle.file_commands.specs.TrueFetches.{IsTrueFetch}
-use Rattle.file_commands.specs.TrueLines.{IsTrueLine}
-use Rattle.file_commands.specs.declared.status.Status.{Status}
-use Rattle.file_commands.specs.declared.status.Status.TheVariants as status
+use Rattle.command_parts.specs.Answer.{answer, answer_with, called_answer}
+use Rattle.command_parts.specs.AnswerForms.{Answer}
+use Rattle.command_parts.specs.RefusedAnswers.{usage_answer}
+use Rattle.command_parts.specs.Codes.{code}
+use Rattle.command_parts.specs.Ending.{EndsAs}
+use Rattle.command_parts.specs.Outsides.{Outside}
+use Rattle.command_parts.specs.Reaching.{IsReached}
+use Rattle.command_parts.specs.ReachingInCode.{ReachedAt}
+use Rattle.call_commands.specs.TrueFetches.{IsTrueFetch}
+use Rattle.call_commands.specs.TrueLines.{IsTrueLine}
+use Rattle.command_parts.specs.declared.status.Status.{Status}
+use Rattle.command_parts.specs.declared.status.Status.TheVariants as status
 use Rattle.journal_commands.specs.DisksSeen.{DiskSeen}
-use Rattle.auth_cli.specs.NetRuns.{CallsNoDial, CallsNoListen, DialsNone, EndsCommand, EndsRun, IsOfFiles, IsOffline, IsReadFaultAt, ListensToNone}
-use Rattle.auth_cli.specs.OnlineRuns.{NetSeen}
+use Rattle.auth_cli.specs.NetRuns.{DialsNone, IfCalled, IsOfFiles, IsOffline, ListensToNone}
+use Rattle.auth_cli.specs.RunsInCode.{EndsCommand, EndsRun, IsReadFaultAt}
+use Rattle.net_commands.specs.OnlineRuns.{NetSeen}
 use Rattle.auth_cli.proofs.Answered.{no_rise}
 use Rattle.auth_cli.proofs.RunCounts.{AreBelow, ReadsRose, RunCounts, WritesRose, counts_fault, counts_rose, counts_writes, of_answer, of_disk, of_host, of_net}
 use Rattle.auth_cli.proofs.TrueFetch.{true_fetch}
@@ -132,7 +134,7 @@ module _ (old new : Outside) (net net' : NetSeen) (disk disk' : DiskSeen) where
   command_dials Replay texts ended none ends = dials_as_before ends.2
   command_dials command texts ended none ends = dials_as_before ends.1
 
-  pub run_dials : (found : Option Invocation) (ended : Status) → CallsNoDial found → EndsRun found old new net net' disk disk' ended → net'.faults.dials ≡ net.faults.dials
+  pub run_dials : (found : Option Invocation) (ended : Status) → IfCalled DialsNone found → EndsRun found old new net net' disk disk' ended → net'.faults.dials ≡ net.faults.dials
   run_dials None ended none ends = dials_as_before ends.1
   run_dials (Some called) ended none ends = command_dials called.command called.texts ended none ends
 
@@ -153,7 +155,7 @@ module _ (old new : Outside) (net net' : NetSeen) (disk disk' : DiskSeen) where
   command_listens Replay texts ended none ends = listens_as_before ends.2
   command_listens command texts ended none ends = listens_as_before ends.1
 
-  pub run_listens : (found : Option Invocation) (ended : Status) → CallsNoListen found → EndsRun found old new net net' disk disk' ended → Listens
+  pub run_listens : (found : Option Invocation) (ended : Status) → IfCalled ListensToNone found → EndsRun found old new net net' disk disk' ended → Listens
   run_listens None ended none ends = listens_as_before ends.1
   run_listens (Some called) ended none ends = command_listens called.command called.texts ended none ends
 

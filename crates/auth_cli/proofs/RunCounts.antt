@@ -2,19 +2,19 @@
 use Rattle.std.proofs.Common.{◌≡◌, ◌⊎◌, ◌↔◌, ◌<◌, ◌-◌, ◌^◌, Option, refl, inl, inr, sym, ap, subst, arith}
 use Rattle.lam_outside.specs.Causes.{Rose}
 use Rattle.lam_outside.specs.Told.{Contents}
-use Rattle.file_commands.specs.AnswerForms.{Answer}
-use Rattle.file_commands.specs.Codes.{code}
-use Rattle.file_commands.specs.Ending.{EndsAs}
-use Rattle.file_commands.specs.Outsides.{Outside}
-use Rattle.file_commands.specs.declared.status.Status.{Status}
-use Rattle.file_commands.specs.declared.status.Status.TheVariants as status
+use Rattle.command_parts.specs.AnswerForms.{Answer}
+use Rattle.command_parts.specs.Codes.{code}
+use Rattle.command_parts.specs.Ending.{EndsAs}
+use Rattle.command_parts.specs.Outsides.{Outside}
+use Rattle.command_parts.specs.declared.status.Status.{Status}
+use Rattle.command_parts.specs.declared.status.Status.TheVariants as status
 use Rattle.journal_commands.specs.DiskCounts.{DiskCountsBy}
 use Rattle.journal_commands.specs.DisksSeen.{DiskSeen}
-use Rattle.auth_cli.specs.HostCounts.{HostCounts}
-use Rattle.auth_cli.specs.NetFaults.{NetFaults, NetRose}
-use Rattle.auth_cli.specs.OnlineRuns.{CountsBy}
+use Rattle.net_commands.specs.HostCounts.{HostCounts}
+use Rattle.net_commands.specs.NetFaults.{NetFaults, NetRose}
+use Rattle.net_commands.specs.NetCounts.{CountsBy}
 use Rattle.auth_cli.proofs.Answered.{no_rise, none_rose}
-use Rattle.auth_cli.proofs.OnlineRuns.{unlinked_by}
+use Rattle.net_commands.proofs.OnlineRuns.{unlinked_by}
 
 -- the counts of the net stand below their ends
 pub record AreBelow (net : NetFaults) : Type 0 where

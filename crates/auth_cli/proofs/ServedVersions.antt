@@ -3,10 +3,10 @@ use Rattle.std.proofs.Common.{inl, inr, ℕ, true, false, List, sym, subst}
 use Rattle.sha2.specs.Sha256.{sha256}
 use Rattle.session_meaning.specs.Server.{Server as TheServer, last_turn}
 use Rattle.serve_links.specs.LinkLaws.{KeepsHistory, LinksKeepHistory, PartsKeepHistory}
-use Rattle.file_commands.specs.Answer.{Serving as TheServing}
+use Rattle.command_parts.specs.Answer.{Serving as TheServing}
 use Rattle.auth_cli.specs.ServedHistories.{VersionsAreServed}
-use Rattle.auth_cli.specs.Courses.{NotListening, NotWritten, Served, WithoutMemory}
-use Rattle.auth_cli.specs.Serving.{first_server}
+use Rattle.net_commands.specs.Courses.{NotListening, NotWritten, Served, WithoutMemory}
+use Rattle.net_commands.specs.Serving.{first_server}
 
 pub versions_are_served : LinksKeepHistory → PartsKeepHistory → VersionsAreServed
 versions_are_served links parts s NotListening made accepts accepts' server begun m = subst (KeepsHistory s.program.program) (sym m.1) begun

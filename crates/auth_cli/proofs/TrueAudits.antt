@@ -16,12 +16,12 @@ use Rattle.collision_audit.specs.Splits.{offered_in, split_of}
 use Rattle.collision_audit.proofs.AuditHeadline.{agreement_is_true, collides, judges}
 use Rattle.collision_audit.proofs.FirstSplits.{no_split_is_found, split_is_found}
 use Rattle.collision_audit.proofs.OnProof.{verdict_is_on_proof}
-use Rattle.file_commands.specs.OutcomeAnswers.{state_projection}
-use Rattle.file_commands.specs.RoleInputs.{role_verdict}
-use Rattle.file_commands.specs.AuditedCalls.{SplitsAt, SplitsNowhere}
-use Rattle.file_commands.specs.IdealCalls.{IdealCall, call_audit, call_pieces, called_program, projected_outcome}
-use Rattle.file_commands.specs.ProvedCalls.{client_call}
-use Rattle.file_commands.specs.RoleCalls.{outcome_called}
+use Rattle.command_parts.specs.OutcomeAnswers.{state_projection}
+use Rattle.command_parts.specs.RoleInputs.{role_verdict}
+use Rattle.call_commands.specs.AuditedCalls.{SplitsAt, SplitsNowhere}
+use Rattle.command_parts.specs.IdealCalls.{IdealCall, call_audit, call_pieces, called_program, projected_outcome}
+use Rattle.call_commands.specs.ProvedCalls.{client_call}
+use Rattle.command_parts.specs.RoleCalls.{outcome_called}
 use Rattle.auth_cli.proofs.AcceptedCalls.{IsMeant, own_projection}
 
 -- what the audit of a proof of the call comes to is so

@@ -12,22 +12,22 @@ use Rattle.core_terms.specs.Terms.{Program}
 use Rattle.core_terms.specs.Values.{Value}
 use Rattle.ideal_meaning.specs.Checked.{Verdict}
 use Rattle.ideal_meaning.specs.Ideal.{Outcome, Done, Trapped, Out}
-use Rattle.file_commands.specs.Answer.{answer, called_answer, fetched_answer, fetched_verdict, mirror_read, mirrored_answer}
-use Rattle.file_commands.specs.AcceptedAnswers.{shallow_told}
-use Rattle.file_commands.specs.RoleInputs.{RoleCall}
-use Rattle.file_commands.specs.AnswerForms.{Answer}
-use Rattle.file_commands.specs.RefusedAnswers.{verdict_answer}
-use Rattle.file_commands.specs.Codes.{code}
-use Rattle.file_commands.specs.Ending.{EndsAs, IsToldAs}
-use Rattle.file_commands.specs.Outsides.{Outside}
-use Rattle.file_commands.specs.FueledRoles.{FueledRole}
-use Rattle.file_commands.specs.NamedCalls.{NamesRole}
-use Rattle.file_commands.specs.RoleCalls.{passed_literal, program_called}
-use Rattle.file_commands.specs.TrueFetches.{CallsFetch, IsTrueFetch}
-use Rattle.file_commands.specs.TrueLines.{TellsOutcome}
-use Rattle.file_commands.specs.declared.roles.Callee.TheVariants.{OfState}
-use Rattle.file_commands.specs.declared.status.Status.{Status}
-use Rattle.file_commands.proofs.SoundRoles.{named_reader, named_whole, reader_fetched}
+use Rattle.command_parts.specs.Answer.{answer, called_answer, fetched_answer, fetched_verdict, mirror_read, mirrored_answer}
+use Rattle.command_parts.specs.AcceptedAnswers.{shallow_told}
+use Rattle.command_parts.specs.RoleInputs.{RoleCall}
+use Rattle.command_parts.specs.AnswerForms.{Answer}
+use Rattle.command_parts.specs.RefusedAnswers.{verdict_answer}
+use Rattle.command_parts.specs.Codes.{code}
+use Rattle.command_parts.specs.Ending.{EndsAs, IsToldAs}
+use Rattle.command_parts.specs.Outsides.{Outside}
+use Rattle.command_parts.specs.FueledRoles.{FueledRole}
+use Rattle.call_commands.specs.NamedCalls.{NamesRole}
+use Rattle.command_parts.specs.RoleCalls.{passed_literal, program_called}
+use Rattle.call_commands.specs.TrueFetches.{CallsFetch, IsTrueFetch}
+use Rattle.call_commands.specs.TrueLines.{TellsOutcome}
+use Rattle.command_parts.specs.declared.roles.Callee.TheVariants.{OfState}
+use Rattle.command_parts.specs.declared.status.Status.{Status}
+use Rattle.call_commands.proofs.SoundRoles.{named_reader, named_whole, reader_fetched}
 use Rattle.auth_cli.proofs.AnsweredCalls.{fetch_means}
 use Rattle.auth_cli.proofs.AnsweredRuns.{some_told, told}
 use Rattle.auth_cli.proofs.TrueLine.{accepted, one_role}
@@ -54,11 +54,11 @@ module _ (line : List (List ℕ)) (files : Contents) (r : FueledRole) (state arg
       let means =
       fetch_means a (inl tells) calls.program_name calls.role_name calls.state_name calls.argument_text calls.fuel_text calls.mirror_name files (sym fetched ∙ is) in
       let same =
-      one_role OfState calls.program_name calls.role_name calls.fuel_text files means.0 means.5 r calls.bytes calls.program_file calls.program
-      calls.named calls.role calls.fuel in
-      let state_is : means.1 ≡ s = let both = sym means.6 ∙ calls.state_file in cc in
+      one_role OfState calls.program_name calls.role_name calls.fuel_text files means.0 means.5 r calls.call.bytes calls.call.program_file calls.call.program
+      calls.call.named calls.call.role calls.call.fuel in
+      let state_is : means.1 ≡ s = let both = sym means.6 ∙ calls.call.state_file in cc in
       let literal = sym (ap (λ (r : FueledRole). passed_literal r calls.argument_text) same) ∙ means.7 in
-      let argument_is : means.2 ≡ x = let both = sym literal ∙ calls.argument_is in cc in
+      let argument_is : means.2 ≡ x = let both = sym literal ∙ calls.call.argument_is in cc in
       let mirror_is : means.3 ≡ calls.mirror = let both = sym means.8 ∙ calls.mirror_file in cc in
       let pieces_are : means.4 ≡ pieces = let both = sym means.9 ∙ (ap mirror_read mirror_is ∙ calls.held) in cc in (
         subst (λ (r : FueledRole). NamesRole OfState calls.program_name calls.role_name calls.fuel_text files r) same means.5,
@@ -91,5 +91,5 @@ true_fetch line old new status ends files known r state argument pieces calls te
       o.0,
       answered.1 ∙ ap (λ (v : Verdict). append_known old.written (concat (verdict_answer (shallow_told r) v).lines)) o.1,
       nothing_stored r o.0 old new (subst (λ (v : Verdict). AddsStores old.stores new.stores (verdict_answer (shallow_told r) v).stored) o.1 answered.2),
-      reader_fetched r state argument pieces o.0 reader whole calls.ideal_state calls.ideal_argument o.1,
+      reader_fetched r state argument pieces o.0 reader whole calls.call.ideal_state calls.call.ideal_argument o.1,
     )

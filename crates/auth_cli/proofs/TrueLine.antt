@@ -13,27 +13,27 @@ use Rattle.core_terms.specs.Terms.{Program}
 use Rattle.core_terms.specs.Values.{Value}
 use Rattle.ideal_meaning.specs.Ideal.{Outcome}
 use Rattle.ideal_meaning.specs.Checked.{Verdict, BadState, BadArgument, Rejected, Accepted}
-use Rattle.file_commands.specs.Answer.{answer, answer_with, called_answer, judged_answer, verified_answer}
-use Rattle.file_commands.specs.AcceptedAnswers.{accepted_answer, callee_of}
-use Rattle.file_commands.specs.RoleInputs.{RoleCall, role_verdict}
-use Rattle.file_commands.specs.AnswerForms.{Answer}
-use Rattle.file_commands.specs.RefusedAnswers.{verdict_answer}
-use Rattle.file_commands.specs.Arguments.{fuel_of}
-use Rattle.file_commands.specs.Codes.{code}
-use Rattle.file_commands.specs.Ending.{EndsAs, IsToldAs}
-use Rattle.file_commands.specs.Outsides.{Outside}
-use Rattle.file_commands.specs.FilePrograms.{program_of_file}
-use Rattle.file_commands.specs.FueledRoles.{FueledRole, NamedProgram}
-use Rattle.file_commands.specs.NamedCalls.{NamesRole}
-use Rattle.file_commands.specs.NamedPrograms.{named_program}
-use Rattle.file_commands.specs.RoleCalls.{passed_literal, program_called}
-use Rattle.file_commands.specs.TextPrograms.{IsProgram}
-use Rattle.file_commands.specs.TrueLines.{CallsVerify, IsTrueLine, TellsOutcome, words_of}
-use Rattle.file_commands.specs.declared.roles.Callee.{Callee}
-use Rattle.file_commands.specs.declared.status.Status.{Status}
+use Rattle.command_parts.specs.Answer.{answer, answer_with, called_answer, judged_answer, verified_answer}
+use Rattle.command_parts.specs.AcceptedAnswers.{accepted_answer, callee_of}
+use Rattle.command_parts.specs.RoleInputs.{RoleCall, role_verdict}
+use Rattle.command_parts.specs.AnswerForms.{Answer}
+use Rattle.command_parts.specs.RefusedAnswers.{verdict_answer}
+use Rattle.command_parts.specs.Arguments.{fuel_of}
+use Rattle.command_parts.specs.Codes.{code}
+use Rattle.command_parts.specs.Ending.{EndsAs, IsToldAs}
+use Rattle.command_parts.specs.Outsides.{Outside}
+use Rattle.command_parts.specs.FilePrograms.{program_of_file}
+use Rattle.command_parts.specs.FueledRoles.{FueledRole, NamedProgram}
+use Rattle.call_commands.specs.NamedCalls.{NamesRole}
+use Rattle.call_commands.specs.NamedPrograms.{named_program}
+use Rattle.command_parts.specs.RoleCalls.{passed_literal, program_called}
+use Rattle.command_parts.specs.TextPrograms.{IsProgram}
+use Rattle.call_commands.specs.TrueLines.{CallsVerify, IsTrueLine, TellsOutcome, words_of}
+use Rattle.command_parts.specs.declared.roles.Callee.{Callee}
+use Rattle.command_parts.specs.declared.status.Status.{Status}
 use Rattle.auth_cli.proofs.AnsweredCalls.{no_outcome, verify_means}
 use Rattle.auth_cli.proofs.AnsweredRuns.{some_told, told}
-use Rattle.file_commands.proofs.SoundRoles.{callee_reads, named_reader, reader_headline}
+use Rattle.call_commands.proofs.SoundRoles.{callee_reads, named_reader, reader_headline}
 
 -- words and files name one role
 module _ (callee : Callee) (program role fuel : List ℕ) (files : Contents) (named : FueledRole) (names : NamesRole callee program role fuel files named)
@@ -100,11 +100,11 @@ module _ (line : List (List ℕ)) (files : Contents) (r : FueledRole) (state arg
       verify_means a (inl tells) calls.program_name calls.role_name calls.state_name calls.argument_text calls.fuel_text calls.proof_name out files
       (sym judged ∙ is) in
       let same =
-      one_role (callee_of out) calls.program_name calls.role_name calls.fuel_text files means.0 means.4 r calls.bytes calls.program_file calls.program
-      calls.named calls.role calls.fuel in
-      let state_is : means.1 ≡ s = let both = sym means.5 ∙ calls.state_file in cc in
+      one_role (callee_of out) calls.program_name calls.role_name calls.fuel_text files means.0 means.4 r calls.call.bytes calls.call.program_file calls.call.program
+      calls.call.named calls.call.role calls.call.fuel in
+      let state_is : means.1 ≡ s = let both = sym means.5 ∙ calls.call.state_file in cc in
       let literal = sym (ap (λ (r : FueledRole). passed_literal r calls.argument_text) same) ∙ means.6 in
-      let argument_is : means.2 ≡ x = let both = sym literal ∙ calls.argument_is in cc in
+      let argument_is : means.2 ≡ x = let both = sym literal ∙ calls.call.argument_is in cc in
       let proof_is : means.3 ≡ proof = let both = sym means.7 ∙ calls.proof_file in cc in (
         subst (λ (r : FueledRole). NamesRole (callee_of out) calls.program_name calls.role_name calls.fuel_text files r) same means.4,
         is ∙ sym means.8
@@ -129,5 +129,5 @@ true_line line old new status ends files known r state argument proof out calls 
       o.0,
       answered.1 ∙ ap (λ (v : Verdict). append_known old.written (concat (verdict_answer (accepted_answer r out) v).lines)) o.1,
       subst (λ (v : Verdict). AddsStores old.stores new.stores (verdict_answer (accepted_answer r out) v).stored) o.1 answered.2,
-      reader_headline r state argument proof o.0 reader calls.ideal_state calls.ideal_argument o.1,
+      reader_headline r state argument proof o.0 reader calls.call.ideal_state calls.call.ideal_argument o.1,
     )

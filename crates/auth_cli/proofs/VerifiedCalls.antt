@@ -4,6 +4,7 @@ use Rattle.sha2.specs.Sha256.{sha256}
 use Rattle.sha2.proofs.Facts256.{length-sha256}
 use Rattle.lam_outside.specs.Told.{Contents}
 use Rattle.core_terms.specs.Formats.{IsFormat}
+use Rattle.core_terms.specs.Limits.{most_file_bytes}
 use Rattle.core_terms.specs.Projection.{Fits, digest_at, projection, read_at}
 use Rattle.core_terms.specs.Reading.{Read, Good, BadAt}
 use Rattle.core_terms.specs.Spelling.{spelling}
@@ -11,21 +12,21 @@ use Rattle.core_terms.specs.Terms.{Program}
 use Rattle.core_terms.specs.Values.{Value, IsIdeal}
 use Rattle.core_terms.proofs.LawProofs.{projection_is_read_back, projection_keeps_limits, size_is_length}
 use Rattle.printed_lines.specs.declared.refusal.Argument.TheVariants as named
-use Rattle.file_commands.specs.Answer.{verified_answer}
-use Rattle.file_commands.specs.AcceptedAnswers.{accepted_answer, callee_of}
-use Rattle.file_commands.specs.OutcomeAnswers.{state_projection}
-use Rattle.file_commands.specs.RoleInputs.{RoleCall, with_fueled_role, with_passed, with_role_call}
-use Rattle.file_commands.specs.FileInputs.{max_file, state_read, with_bytes, with_literal, with_state, with_state_read}
-use Rattle.file_commands.specs.AnswerForms.{Answer}
-use Rattle.file_commands.specs.RefusedAnswers.{verdict_answer}
-use Rattle.file_commands.specs.FueledRoles.{FueledRole}
-use Rattle.file_commands.specs.IdealCalls.{IdealCall, called_program}
-use Rattle.file_commands.specs.NamedCalls.{NamesInputs, NamesRole}
-use Rattle.file_commands.specs.ProvedCalls.{IsAcceptedCall, IsVerified, client_call}
-use Rattle.file_commands.specs.declared.roles.Callee.TheVariants.{OfState}
+use Rattle.command_parts.specs.Answer.{verified_answer}
+use Rattle.command_parts.specs.AcceptedAnswers.{accepted_answer, callee_of}
+use Rattle.command_parts.specs.OutcomeAnswers.{state_projection}
+use Rattle.command_parts.specs.RoleInputs.{RoleCall, with_fueled_role, with_passed, with_role_call}
+use Rattle.command_parts.specs.FileInputs.{state_read, with_bytes, with_literal, with_state, with_state_read}
+use Rattle.command_parts.specs.AnswerForms.{Answer}
+use Rattle.command_parts.specs.RefusedAnswers.{verdict_answer}
+use Rattle.command_parts.specs.FueledRoles.{FueledRole}
+use Rattle.command_parts.specs.IdealCalls.{IdealCall, called_program}
+use Rattle.call_commands.specs.NamedCalls.{NamesInputs, NamesRole}
+use Rattle.call_commands.specs.ProvedCalls.{IsAcceptedCall, IsVerified, client_call}
+use Rattle.command_parts.specs.declared.roles.Callee.TheVariants.{OfState}
 use Rattle.auth_cli.proofs.AcceptedCalls.{IsMeant}
-use Rattle.file_commands.proofs.GoingOn.{file_goes, fueled_goes, program_goes}
-use Rattle.file_commands.proofs.StateOutputs.{is_shallow}
+use Rattle.call_commands.proofs.GoingOn.{file_goes, fueled_goes, program_goes}
+use Rattle.command_parts.proofs.StateOutputs.{is_shallow}
 
 -- the spelling of a projected state is read, and short enough for a file
 abbrev state_bytes : Program → Value → List ℕ
@@ -45,7 +46,7 @@ module _ (P : Program) (format : IsFormat P.format) (v : Value) (ideal : IsIdeal
       read_goes go
       (projection_is_read_back (digest_at sha256 P) (format.digest_length sha256 length-sha256) P.format.limit format.limit_fits P.types P.state v ideal)
 
-  state_short : length (spelling (state_projection P v)) ≤ max_file
+  state_short : length (spelling (state_projection P v)) ≤ most_file_bytes
   unfolding state_projection
   state_short =
       let is = size_is_length P.types P.state (projection sha256 P P.state v) (is_shallow P format P.state v ideal) in
@@ -64,7 +65,7 @@ call_is_verified call n program role image argument fuel files meant accepted na
     let on_state : List ℕ → Option Answer = λ s. with_passed r argument (λ x. on_call (record { role = r; state = s; argument = spelling x })) in
     program_goes (files program) (later name) r.program names.program_file (λ p. with_fueled_role (callee_of out) p role fuel on_role) program_is
     ∙ fueled_goes (callee_of out) OfState program role fuel files r on_role names called
-    ∙ file_goes max_file named.State (later state) client.state (λ bytes. with_state P bytes on_state) state_is
+    ∙ file_goes most_file_bytes named.State (later state) client.state (λ bytes. with_state P bytes on_state) state_is
     (state_short P meant.reader.format call.state meant.state.ideal meant.state.fits)
     ∙ state_goes P meant.reader.format call.state meant.state.ideal meant.state.fits on_state
     ∙ ap (λ found. with_literal found (λ x. on_call (record { role = r; state = client.state; argument = spelling x }))) inputs.argument

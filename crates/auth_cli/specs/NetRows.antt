@@ -1,32 +1,34 @@
 -- Rows for the counts of a run by its status, and for the commands that use a net or a disk. What each word takes, and what it refuses.
-use Rattle.std.specs.Prelude.{◌≡◌, ◌⊎◌, ◌≤◌, ℕ, List, [], ◌∷◌, Option, Some, None, refl}
+use Rattle.std.specs.Prelude.{◌≡◌, ◌⊎◌, ◌≤◌, true, false, ℕ, List, [], ◌∷◌, Option, Some, None, refl}
 use Rattle.std.proofs.Common.{arith, ap, inl, inr}
 use Rattle.command_words.specs.Invocations.{Invocation}
 use Rattle.command_words.specs.declared.command.Command.TheVariants.{Check, Init, Ideal, Step, Shallow, Migrate, Prove, Verify, Audit, Library, Gen, Serve, Ask, Pieces, Fetch, Mirror, Draw, Found, Host, Replay, Emit}
 use Rattle.lam_outside.specs.Causes.{Rose}
 use Rattle.lam_outside.specs.Told.{Contents, Names}
-use Rattle.file_commands.specs.Answer.{answer_with}
-use Rattle.file_commands.specs.AnswerForms.{Answer}
-use Rattle.file_commands.specs.RefusedAnswers.{usage_answer}
-use Rattle.file_commands.specs.Ending.{EndsAs}
-use Rattle.file_commands.specs.Outsides.{Outside}
-use Rattle.file_commands.specs.Reaching.{IsReached}
-use Rattle.auth_cli.specs.Asking.{AskCounts, IsAsk}
-use Rattle.auth_cli.specs.CourseRows.{faults, rose}
-use Rattle.auth_cli.specs.Drawing.{DrawCounts, IsDraw}
-use Rattle.auth_cli.specs.HostCounts.{HostCounts}
-use Rattle.auth_cli.specs.Hosting.{IsHost}
-use Rattle.auth_cli.specs.Mirroring.{IsMirror, MirrorCounts}
-use Rattle.auth_cli.specs.NetFaults.{NetFaults, NetRose}
-use Rattle.auth_cli.specs.NetRuns.{CallsNoDial, CallsNoDisk, CallsNoListen, CallsNoNet, DialsNone, EndsCommand, EndsRun, IsOfFiles, IsOffline, IsReadFaultAt, ListensToNone, UsesNoDisk, UsesNoNet}
-use Rattle.auth_cli.specs.OnlineRuns.{CountsBy, NetSeen}
-use Rattle.auth_cli.specs.Serving.{IsServe, ServeCounts}
+use Rattle.command_parts.specs.Answer.{answer_with}
+use Rattle.command_parts.specs.AnswerForms.{Answer}
+use Rattle.command_parts.specs.RefusedAnswers.{usage_answer}
+use Rattle.command_parts.specs.Ending.{EndsAs}
+use Rattle.command_parts.specs.Outsides.{Outside}
+use Rattle.command_parts.specs.Reaching.{IsReached}
+use Rattle.net_commands.specs.Asking.{IsAsk}
+use Rattle.net_commands.specs.NetCounts.{DialCounts, CountsBy, ListenCounts}
+use Rattle.net_commands.specs.CourseRows.{faults, rose}
+use Rattle.net_commands.specs.Drawing.{IsDraw}
+use Rattle.net_commands.specs.HostCounts.{HostCounts}
+use Rattle.net_commands.specs.Hosting.{IsHost}
+use Rattle.net_commands.specs.Mirroring.{IsMirror}
+use Rattle.net_commands.specs.NetFaults.{NetFaults, NetRose}
+use Rattle.auth_cli.specs.NetRuns.{DialsNone, IfCalled, IsOfFiles, IsOffline, ListensToNone, Not, UsesNoDisk, UsesNoNet}
+use Rattle.auth_cli.specs.RunsInCode.{EndsCommand, EndsRun, IsReadFaultAt}
+use Rattle.net_commands.specs.OnlineRuns.{NetSeen}
+use Rattle.net_commands.specs.Serving.{IsServe}
 use Rattle.journal_commands.specs.DiskCounts.{DiskCountsBy}
 use Rattle.journal_commands.specs.DisksSeen.{DiskSeen}
 use Rattle.journal_commands.specs.Founding.{EndsFounding}
 use Rattle.journal_commands.specs.Replaying.{EndsReplaying}
-use Rattle.file_commands.specs.declared.status.Status.{Status}
-use Rattle.file_commands.specs.declared.status.Status.TheVariants.{Done, ReadFault, WriteFault, NoMemory}
+use Rattle.command_parts.specs.declared.status.Status.{Status}
+use Rattle.command_parts.specs.declared.status.Status.TheVariants.{Done, ReadFault, WriteFault, NoMemory}
 
 -- COUNTS
 abbrev pub seen : (read_faults store_faults write_faults : ℕ) → Outside
@@ -66,6 +68,9 @@ pub not_done : CountsBy (seen 3 5 6) (seen 3 5 6) still (faults 3 3 3 4) Done �
 not_done c = let e : 4 ≡ 3 = ap (λ (f : NetFaults). f.dials) c.1 in omega (arith, e)
 
 -- COMMANDS
+pub says_not : (Not true → ⊥) × Not false
+says_not = ((λ n. n), tt)
+
 pub use_no_net : UsesNoNet Check × UsesNoNet Init × UsesNoNet Ideal × UsesNoNet Step × UsesNoNet Shallow × UsesNoNet Migrate × UsesNoNet Prove × UsesNoNet Verify × UsesNoNet Audit × UsesNoNet Library × UsesNoNet Gen
     × UsesNoNet Pieces × UsesNoNet Fetch × UsesNoNet Found × UsesNoNet Replay × UsesNoNet Emit
 use_no_net = (tt, tt, tt, tt, tt, tt, tt, tt, tt, tt, tt, tt, tt, tt, tt, tt)
@@ -92,32 +97,32 @@ pub listens : ListensToNone Ask × ListensToNone Draw × ListensToNone Verify ×
 listens = (tt, tt, tt, tt, tt, (λ l. l), (λ l. l), (λ l. l))
 
 -- the same of words that call a command, or none
-pub calls : (called : Invocation) → (IsOfFiles called.command → IsOffline (Some called)) × (UsesNoNet called.command → CallsNoNet (Some called)) × (UsesNoDisk called.command → CallsNoDisk (Some called))
-    × (DialsNone called.command → CallsNoDial (Some called)) × (ListensToNone called.command → CallsNoListen (Some called))
+pub calls : (called : Invocation) → (IsOfFiles called.command → IsOffline (Some called)) × (UsesNoNet called.command → IfCalled UsesNoNet (Some called)) × (UsesNoDisk called.command → IfCalled UsesNoDisk (Some called))
+    × (DialsNone called.command → IfCalled DialsNone (Some called)) × (ListensToNone called.command → IfCalled ListensToNone (Some called))
 calls called = ((λ o. o), (λ u. u), (λ u. u), (λ d. d), (λ l. l))
 
-pub no_call : IsOffline None × CallsNoNet None × CallsNoDisk None × CallsNoDial None × CallsNoListen None
+pub no_call : IsOffline None × IfCalled UsesNoNet None × IfCalled UsesNoDisk None × IfCalled DialsNone None × IfCalled ListensToNone None
 no_call = (tt, tt, tt, tt, tt)
 
 abbrev pub replaying : Invocation
 replaying = record { command = Replay; texts = [] }
 
-pub on_a_disk : (IsOffline (Some replaying) → ⊥) × (CallsNoDisk (Some replaying) → ⊥) × CallsNoNet (Some replaying)
+pub on_a_disk : (IsOffline (Some replaying) → ⊥) × (IfCalled UsesNoDisk (Some replaying) → ⊥) × IfCalled UsesNoNet (Some replaying)
 on_a_disk = ((λ o. o.1), (λ u. u), tt)
 
 -- ENDS
 module _ (texts : List (List ℕ)) (old new : Outside) (net net' : NetSeen) (disk disk' : DiskSeen) (status : Status) where
   -- each but `host`, `found` and `replay` leaves the disk as it was
-  pub ends_serve : IsServe texts old new net net' status → ServeCounts old new net.faults net'.faults status → EndsCommand Serve texts old new net net' disk disk status
+  pub ends_serve : IsServe texts old new net net' status → ListenCounts old new net.faults net'.faults status → EndsCommand Serve texts old new net net' disk disk status
   ends_serve is counts = (is, counts, refl)
 
-  pub ends_ask : IsAsk texts old new net net' status → AskCounts old new net.faults net'.faults status → EndsCommand Ask texts old new net net' disk disk status
+  pub ends_ask : IsAsk texts old new net net' status → DialCounts old new net.faults net'.faults status → EndsCommand Ask texts old new net net' disk disk status
   ends_ask is counts = (is, counts, refl)
 
-  pub ends_mirror : IsMirror texts old new net net' status → MirrorCounts old new net.faults net'.faults status → EndsCommand Mirror texts old new net net' disk disk status
+  pub ends_mirror : IsMirror texts old new net net' status → ListenCounts old new net.faults net'.faults status → EndsCommand Mirror texts old new net net' disk disk status
   ends_mirror is counts = (is, counts, refl)
 
-  pub ends_draw : IsDraw texts old new net net' status → DrawCounts old new net.faults net'.faults status → EndsCommand Draw texts old new net net' disk disk status
+  pub ends_draw : IsDraw texts old new net net' status → DialCounts old new net.faults net'.faults status → EndsCommand Draw texts old new net net' disk disk status
   ends_draw is counts = (is, counts, refl)
 
   pub ends_host : IsHost texts old new net net' disk disk' status → HostCounts old new net.faults net'.faults disk disk' status → EndsCommand Host texts old new net net' disk disk' status

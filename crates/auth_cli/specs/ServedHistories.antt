@@ -4,9 +4,9 @@ use Rattle.lam_outside.specs.Links.{Linked}
 use Rattle.serve_links.specs.Connections.{AnyKept}
 use Rattle.session_meaning.specs.Server.{Server}
 use Rattle.session_meaning.specs.ServedHistories.{IsHistory}
-use Rattle.file_commands.specs.Answer.{Serving}
-use Rattle.auth_cli.specs.Courses.{Course}
-use Rattle.auth_cli.specs.Serving.{MakesLinks}
+use Rattle.command_parts.specs.Answer.{Serving}
+use Rattle.net_commands.specs.Courses.{Course}
+use Rattle.net_commands.specs.Serving.{MakesLinks}
 
 -- Whatever course a serving takes, and whatever comes on its links: each version that the server has in the end, but the first, is what the ideal
 -- run of an update makes of the one before it, which its commit names, where it began so, as with a first version or with what a journal keeps, and

@@ -1,45 +1,40 @@
 // All that the program does.
-ghost use Rattle.std.specs.Prelude.{◌≡◌, ◌≢◌, ◌⊎◌, ◌↔◌, ◌<◌, ◌-◌, ◌^◌, ℕ, List, codes, Some, None};
+ghost use Rattle.std.specs.Prelude.{◌≡◌, ◌≢◌, ◌⊎◌, ◌↔◌, ◌<◌, ◌-◌, ◌^◌, ℕ, List, codes, Some};
 ghost use Rattle.std.specs.Option.{ForSome};
 ghost use Rattle.std.specs.Io.KnownBytes.{append_known};
 ghost use Rattle.command_words.specs.CommandLine.{AreRefused};
-ghost use Rattle.command_words.specs.Commands.{IsOfCommand, texts};
+ghost use Rattle.command_words.specs.Commands.{texts};
 ghost use Rattle.command_words.specs.Invocations.{Invocation, invocation_of};
 ghost use Rattle.command_words.specs.declared.command.Command.TheVariants.{Ask, Audit, Draw, Found, Host, Mirror, Prove, Replay, Serve};
 ghost use Rattle.collision_audit.specs.Splits.{Split};
 ghost use Rattle.lam_outside.specs.Causes.{Rose};
-ghost use Rattle.file_commands.specs.Answer.{Asking, Drawing, answer, answer_with};
-ghost use Rattle.auth_cli.specs.Asking.{CallsAsk, IsAsk, TellsTrueOutcomes};
-ghost use Rattle.file_commands.specs.AuditedCalls.{CallsAudit, IsAudited, SplitsAt, TellsAnAudit};
-ghost use Rattle.file_commands.specs.Codes.{code};
-ghost use Rattle.auth_cli.specs.Drawing.{CallsDraw, DrawsTrueOutcomes, IsDraw};
-ghost use Rattle.auth_cli.specs.Mirroring.{IsMirror};
-ghost use Rattle.file_commands.specs.Ending.{EndsAs, IsOfFault, IsOfRefused, IsToldByCode, MayWrite, NoneRose, StoresSome, WritesPart, no_memory_text};
-ghost use Rattle.file_commands.specs.Outsides.{outside};
-ghost use Rattle.file_commands.specs.IdealCalls.{IdealCall};
-ghost use Rattle.auth_cli.specs.NetFaults.{NetRose, net_faults};
-ghost use Rattle.auth_cli.specs.NetRuns.{CallsNoDial, CallsNoDisk, CallsNoListen, CallsNoNet, EndsCommand, EndsRun, IsOfFiles, IsOffline, IsReadFaultAt, UsesNoDisk, UsesNoNet};
-ghost use Rattle.auth_cli.specs.Hosting.{IsHost};
+ghost use Rattle.command_parts.specs.Answer.{Asking, Drawing, answer};
+ghost use Rattle.net_commands.specs.Asking.{CallsAsk, IsAsk, TellsTrueOutcomes};
+ghost use Rattle.call_commands.specs.AuditedCalls.{CallsAudit, IsAudited, SplitsAt, TellsAnAudit};
+ghost use Rattle.command_parts.specs.Codes.{code};
+ghost use Rattle.net_commands.specs.Drawing.{CallsDraw, DrawsTrueOutcomes, IsDraw};
+ghost use Rattle.net_commands.specs.Mirroring.{IsMirror};
+ghost use Rattle.command_parts.specs.Ending.{EndsAs, IsOfFault, IsToldByCode, MayWrite, NoneRose, StoresSome, WritesPart, no_memory_text};
+ghost use Rattle.command_parts.specs.Outsides.{outside};
+ghost use Rattle.command_parts.specs.IdealCalls.{IdealCall};
+ghost use Rattle.net_commands.specs.NetFaults.{NetRose, net_faults};
+ghost use Rattle.auth_cli.specs.NetRuns.{DialsNone, IfCalled, IsOffline, ListensToNone, UsesNoDisk, UsesNoNet};
+ghost use Rattle.net_commands.specs.Hosting.{IsHost};
 ghost use Rattle.journal_commands.specs.DisksSeen.{disk_seen};
 ghost use Rattle.journal_commands.specs.Founding.{EndsFounding};
 ghost use Rattle.journal_commands.specs.Replaying.{EndsReplaying};
-ghost use Rattle.auth_cli.specs.OnlineRuns.{net_seen};
-ghost use Rattle.file_commands.specs.ProvedCalls.{CallsProve, IsProved};
-ghost use Rattle.file_commands.specs.Reaching.{IsReached, ReachedAt};
-ghost use Rattle.auth_cli.specs.Serving.{IsServe};
-ghost use Rattle.file_commands.specs.Statuses.{MayAnswer};
-ghost use Rattle.file_commands.specs.TrueFetches.{IsTrueFetch};
-ghost use Rattle.file_commands.specs.TrueLines.{IsTrueLine, TellsOutcome};
-ghost use Rattle.file_commands.specs.declared.status.Status.{Status};
+ghost use Rattle.net_commands.specs.OnlineRuns.{net_seen};
+ghost use Rattle.call_commands.specs.ProvedCalls.{CallsProve, IsProved};
+ghost use Rattle.command_parts.specs.Reaching.{IsReached};
+ghost use Rattle.net_commands.specs.Serving.{IsServe};
+ghost use Rattle.command_parts.specs.Statuses.{MayAnswer};
+ghost use Rattle.call_commands.specs.TrueFetches.{IsTrueFetch};
+ghost use Rattle.call_commands.specs.TrueLines.{IsTrueLine, TellsOutcome};
+ghost use Rattle.command_parts.specs.declared.status.Status.{Status};
 
-use crate::{ask_command, draw_command, host_command, mirror_command, serve_command};
-use command_words::{Command, WordsFault, read};
-use file_commands::{
-    Halt, Status, audit_command, check_command, emit_command, fetch_command, gen_command,
-    ideal_command, init_command, library_command, migrate_command, pieces_command, prove_command,
-    shallow_command, step_command, tell, verify_command,
-};
-use journal_commands::{found_command, replay_command};
+use crate::carrying_out::ended;
+use command_parts::Status;
+use command_words::read;
 use lam_outside::{Disk, Files, Net, Sink};
 use std::alloc::Global;
 use std::thread::Threads;
@@ -273,13 +268,13 @@ pub fn run<F: Files, O: Sink, N: Net, D: Disk, R: Threads + Sync>(
     ensures read_fault_line { IsOffline (invocation_of (texts words.now)) → result ≡ 8 → O.written out.new ≡ append_known (O.written out.old) (codes "read fault\n") }
 
     // Words that call no command on the net leave it as it was; `ask` and `draw` alone dial, and `serve`, `mirror` and `host` alone listen and accept.
-    ensures unused { CallsNoNet (invocation_of (texts words.now)) → net.new ≡ net.old }
-    ensures dials { CallsNoDial (invocation_of (texts words.now)) → N.dial_faults net.new ≡ N.dial_faults net.old }
-    ensures listens { CallsNoListen (invocation_of (texts words.now))
+    ensures unused { IfCalled UsesNoNet (invocation_of (texts words.now)) → net.new ≡ net.old }
+    ensures dials { IfCalled DialsNone (invocation_of (texts words.now)) → N.dial_faults net.new ≡ N.dial_faults net.old }
+    ensures listens { IfCalled ListensToNone (invocation_of (texts words.now))
         → (N.listen_faults net.new ≡ N.listen_faults net.old) × (N.accept_faults net.new ≡ N.accept_faults net.old) }
 
     // And so of the disk, which `found`, `host` and `replay` alone use.
-    ensures unused_disk { CallsNoDisk (invocation_of (texts words.now)) → disk.new ≡ disk.old }
+    ensures unused_disk { IfCalled UsesNoDisk (invocation_of (texts words.now)) → disk.new ≡ disk.old }
 
     // And where a file could not be read, it is one that the order of refusals had reached: the one that was asked for last, without which
     // these words and the other files have no answer.
@@ -304,108 +299,4 @@ pub fn run<F: Files, O: Sink, N: Net, D: Disk, R: Threads + Sync>(
         → ForSome (F.contents files.old) (λ told. StoresSome (answer (texts words.now) told) (F.stores files.old) (F.stores files.new)) }
 {
     ended(rt, alloc, words, files, out, net, disk).code()
-}
-
-/// Judges the words, and carries out the command that they call.
-fn ended<F: Files, O: Sink, N: Net, D: Disk, R: Threads + Sync>(
-    rt: &R,
-    alloc: Global,
-    words: &[&str],
-    files: &mut F,
-    out: &mut O,
-    net: &mut N,
-    disk: &mut D,
-) -> Status
-    ensures ends { let seen = outside F.contents F.stores F.faults F.store_faults O.written O.faults in
-        let links = net_seen N.ended N.linked N.given N.left N.sent N.reads N.listened (net_faults N.faults N.listen_faults N.accept_faults N.dial_faults) in
-        let on = disk_seen D.contents D.moments D.read_faults D.write_faults in
-        EndsRun (invocation_of (texts words.now)) (seen files.old out.old) (seen files.new out.new) (links net.old) (links net.new) (on disk.old) (on disk.new) result }
-    ensures unused { CallsNoNet (invocation_of (texts words.now)) → net.new ≡ net.old }
-    ensures unused_disk { CallsNoDisk (invocation_of (texts words.now)) → disk.new ≡ disk.old }
-    ensures reached { IsReadFaultAt (answer (texts words.now)) (F.contents files.old) (F.asked files.new) (F.faults files.old) (F.faults files.new) result }
-    ensures possible { (called : Invocation) → invocation_of (texts words.now) ≡ Some called → MayAnswer called.command result }
-    ensures refused { invocation_of (texts words.now) ≡ None → IsOfRefused result }
-{
-    match read(alloc, words) {
-        Ok(called) => carry_out(
-            rt,
-            alloc,
-            called.command,
-            called.texts,
-            files,
-            out,
-            net,
-            disk,
-        ),
-        Err(WordsFault::Refused) => tell(alloc, out, Err(Halt::Usage)),
-        Err(WordsFault::NoMemory) => tell(alloc, out, Err(Halt::NoMemory)),
-    }
-}
-
-/// Carries out a command with as many texts as it has arguments.
-fn carry_out<F: Files, O: Sink, N: Net, D: Disk, R: Threads + Sync>(
-    rt: &R,
-    alloc: Global,
-    command: Command,
-    words: &[&str],
-    files: &mut F,
-    out: &mut O,
-    net: &mut N,
-    disk: &mut D,
-) -> Status
-    requires { IsOfCommand command (texts words.now) }
-    ensures ends { let seen = outside F.contents F.stores F.faults F.store_faults O.written O.faults in
-        let links = net_seen N.ended N.linked N.given N.left N.sent N.reads N.listened (net_faults N.faults N.listen_faults N.accept_faults N.dial_faults) in
-        let on = disk_seen D.contents D.moments D.read_faults D.write_faults in
-        EndsCommand command (texts words.now) (seen files.old out.old) (seen files.new out.new) (links net.old) (links net.new) (on disk.old) (on disk.new) result }
-    ensures unused { UsesNoNet command → net.new ≡ net.old }
-    ensures unused_disk { UsesNoDisk command → disk.new ≡ disk.old }
-    ensures reached { IsReadFaultAt (answer_with command (texts words.now)) (F.contents files.old) (F.asked files.new) (F.faults files.old) (F.faults files.new) result }
-    ensures possible { MayAnswer command result }
-{
-    match command {
-        Command::Serve => serve_command(rt, alloc, words, files, out, net),
-        Command::Ask => ask_command(alloc, words, files, out, net),
-        Command::Mirror => mirror_command(alloc, words, files, out, net),
-        Command::Draw => draw_command(alloc, words, files, out, net),
-        Command::Host => host_command(rt, alloc, words, files, out, net, disk),
-        Command::Found => found_command(alloc, words, files, out, disk),
-        Command::Replay => replay_command(alloc, words, files, out, disk),
-        _ => carry_out_offline(alloc, command, words, files, out),
-    }
-}
-
-/// The same of a command that uses files and the sink alone.
-fn carry_out_offline<F: Files, O: Sink>(
-    alloc: Global,
-    command: Command,
-    words: &[&str],
-    files: &mut F,
-    out: &mut O,
-) -> Status
-    requires command { IsOfCommand command (texts words.now) }
-    requires offline { IsOfFiles command }
-    ensures ends { let seen = outside F.contents F.stores F.faults F.store_faults O.written O.faults in
-        EndsAs (answer_with command (texts words.now)) (seen files.old out.old) (seen files.new out.new) result }
-    ensures reached { ReachedAt result (answer_with command (texts words.now)) (F.contents files.old) (F.asked files.new) }
-    ensures possible { MayAnswer command result }
-{
-    match command {
-        Command::Check => check_command(alloc, words, files, out),
-        Command::Init => init_command(alloc, words, files, out),
-        Command::Ideal => ideal_command(alloc, words, files, out),
-        Command::Step => step_command(alloc, words, files, out),
-        Command::Shallow => shallow_command(alloc, words, files, out),
-        Command::Migrate => migrate_command(alloc, words, files, out),
-        Command::Prove => prove_command(alloc, words, files, out),
-        Command::Verify => verify_command(alloc, words, files, out),
-        Command::Audit => audit_command(alloc, words, files, out),
-        Command::Library => library_command(alloc, words, out),
-        Command::Gen => gen_command(alloc, words, out),
-        Command::Pieces => pieces_command(alloc, words, files, out),
-        Command::Fetch => fetch_command(alloc, words, files, out),
-        Command::Emit => emit_command(alloc, words, files, out),
-        Command::Serve | Command::Ask | Command::Mirror | Command::Draw => unreachable!(),
-        Command::Host | Command::Found | Command::Replay => unreachable!(),
-    }
 }

@@ -4,10 +4,9 @@ use Rattle.std.specs.Prelude.{IsErrAnd}
 use Rattle.std.proofs.lemmas.Result.{err_from_is_err_and}
 use Rattle.lexemes.specs.declared.place.Place.{Place}
 use Rattle.lexemes.specs.declared.fault.SyntaxKind.{SyntaxKind}
-use Rattle.lexemes.specs.Readings.{SyntaxFault}
+use Rattle.lexemes.specs.Readings.{SyntaxFault, Reading, FaultAt, then_read}
 use Rattle.core_terms.specs.declared.fault.Fault.TheVariants.{At, NoMemory}
 use Rattle.lexemes.specs.Tokens.{Tokens}
-use Rattle.lexemes.specs.Readings.{Reading, FaultAt, then_read}
 use Rattle.lexemes.specs.Remaining.{Reads}
 
 -- where one reading has a fault, so has another that rests on it

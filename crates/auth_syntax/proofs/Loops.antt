@@ -4,9 +4,8 @@ use Rattle.std.proofs.lemmas.List.{map-append}
 use Rattle.lexemes.specs.declared.place.Place.{Place}
 use Rattle.lexemes.specs.declared.fault.SyntaxKind.{SyntaxKind}
 use Rattle.lexemes.specs.Tokens.{Token, Tokens, Next, End, Faulty, count}
-use Rattle.lexemes.specs.Readings.{SyntaxFault}
+use Rattle.lexemes.specs.Readings.{SyntaxFault, Reading, Found, FaultAt, then_read, read_separator}
 use Rattle.auth_syntax.specs.Syntax.{ConstructorDeclaration, DeclarationSyntax}
-use Rattle.lexemes.specs.Readings.{Reading, Found, FaultAt, then_read, read_separator}
 use Rattle.auth_syntax.specs.Parsing.{read_bar, read_arm_separator, read_others, read_list, read_expression, read_arms, read_constructor_declaration, read_constructors, read_declaration, read_declarations}
 use Rattle.auth_syntax.specs.Trees.{arms_in_a_row}
 use Rattle.auth_syntax.specs.Arms.{read_arm}

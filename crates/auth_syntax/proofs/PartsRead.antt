@@ -8,8 +8,8 @@ use Rattle.lexemes.specs.declared.token.Keyword.TheVariants.{In as InWord, With 
 use Rattle.core_terms.specs.declared.fault.Fault.TheVariants.{At, NoMemory}
 use Rattle.lexemes.specs.declared.fault.SyntaxKind.TheVariants.{Expected, Lexical, TooNested}
 use Rattle.lexemes.specs.Tokens.{MarkToken, Tokens, Next, count}
-use Rattle.lexemes.specs.Readings.{SyntaxFault, Reading, Found, then_read, read_mark, read_keyword}
-use Rattle.lexemes.specs.Remaining.{Reads, TakesToken, read_if_mark}
+use Rattle.lexemes.specs.Readings.{SyntaxFault, Reading, Found, then_read, read_mark, read_keyword, read_if_mark}
+use Rattle.lexemes.specs.Remaining.{Reads, TakesToken}
 use Rattle.auth_syntax.specs.Syntax.{NameSyntax, UnaryOperation, ArrayOperation, ExpSyntax, UnitSyntax, PairSyntax, UnarySyntax, BinarySyntax, OperateSyntax, LetSyntax, IfSyntax, MatchSyntax}
 use Rattle.auth_syntax.specs.Nesting.{others_of}
 use Rattle.auth_syntax.specs.Parsing.{in_a_row, read_brackets, read_operate, read_so_many, read_lower, read_upper, read_list, read_optional_list, read_call, read_constructor, read_expression, operation_from, read_unit_or_pair, read_let, read_if, read_match, read_arms}

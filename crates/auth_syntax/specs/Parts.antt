@@ -11,8 +11,7 @@ use Rattle.lexemes.specs.declared.fault.LexicalFault.TheVariants.{NumberRange}
 use Rattle.core_terms.specs.Texts.{bytes_of}
 use Rattle.core_terms.specs.declared.fault.Fault.TheVariants.{At, NoMemory}
 use Rattle.lexemes.specs.Tokens.{Token, KeywordToken, MarkToken, LowerToken, UpperToken, IntToken, TextToken, Tokens, Next, count}
-use Rattle.lexemes.specs.Readings.{SyntaxFault, Reading, Found, FaultAt, then_read, read_mark, read_keyword}
-use Rattle.lexemes.specs.Remaining.{read_if_mark}
+use Rattle.lexemes.specs.Readings.{SyntaxFault, Reading, Found, FaultAt, then_read, read_mark, read_keyword, read_if_mark}
 use Rattle.auth_syntax.specs.Syntax.{NameSyntax, UnaryOperation, ArrayOperation, ExpSyntax, CallSyntax, ConstructorSyntax, LocalSyntax, NoExp}
 use Rattle.auth_syntax.specs.Parsing.{begins_expression, in_a_row, read_brackets, read_expression, read_list, read_lower, read_upper, read_optional_list}
 use Rattle.auth_syntax.specs.Trees.{name_of, names_of, unary_of, boxed_of, expressions_of}

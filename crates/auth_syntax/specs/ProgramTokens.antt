@@ -6,8 +6,7 @@ use Rattle.lexemes.specs.declared.place.Place.{Place}
 use Rattle.lexemes.specs.declared.token.Mark.TheVariants.{Semicolon}
 use Rattle.lexemes.specs.declared.fault.SyntaxKind.TheVariants.{Expected}
 use Rattle.lexemes.specs.Tokens.{IntToken, Tokens, Next, tokens}
-use Rattle.lexemes.specs.Readings.{Reading, Found, FaultAt, then_read, refused, read_mark}
-use Rattle.lexemes.specs.Remaining.{read_if_lower}
+use Rattle.lexemes.specs.Readings.{Reading, Found, FaultAt, then_read, refused, read_mark, read_if_lower}
 
 -- the word that tells a format; anywhere but at the head of a program it is a name
 abbrev pub format_word : List ℕ

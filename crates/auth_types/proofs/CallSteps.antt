@@ -4,24 +4,22 @@ use Rattle.std.proofs.lemmas.Bool.{eq-eqb, ne_eqb}
 use Rattle.std.proofs.lemmas.List.{length-map}
 use Rattle.core_terms.specs.Types.{Ty, NamedTy, Table, fields_at}
 use Rattle.core_terms.specs.Terms.{Expression, Expressions, CallE, ConE, MatchE}
-use Rattle.core_terms.specs.TypeTables.{type_of_form, type_at}
+use Rattle.core_terms.specs.TypeTables.{type_at}
 use Rattle.core_terms.specs.declared.program.FunctionId.{FunctionId}
 use Rattle.core_terms.specs.declared.types.NamedId.{NamedId}
-use Rattle.core_terms.specs.declared.types.TyForm.{TyForm}
-use Rattle.core_terms.specs.declared.types.TyForm.TheVariants.{UnitForm, BoolForm, IntForm, TextForm, AuthForm, PairForm, NamedForm, VecForm}
 use Rattle.core_terms.specs.ProgramTrees.{types_at}
 use Rattle.core_terms.specs.declared.types.TyId.{TyId}
 use Rattle.core_terms.specs.declared.term.Constructor.{Constructor}
 use Rattle.auth_syntax.specs.Trees.{ArmSyntax, arm_of, arms_in_a_row}
 use Rattle.auth_syntax.specs.declared.tree.Arm.{Arm}
 use Rattle.lexemes.specs.declared.place.Place.{Place}
-use Rattle.declared_types.specs.Checking.{Checking, FaultAt, then_checked, unless_fault}
+use Rattle.declared_types.specs.Checking.{Checking, then_checked, unless_fault}
 use Rattle.auth_types.specs.Bodies.{Typed, TypedArms, arm_names, called, constructed, matched, same_names, typed}
 use Rattle.declared_types.specs.Signatures.{Numbered, Scope, Signature}
 use Rattle.declared_types.specs.Scopes.{signature_meant}
 use Rattle.declared_types.specs.declared.scope.Head.{Head}
 use Rattle.auth_types.specs.Elaborators.{Calls, Constructs, Matches}
-use Rattle.declared_types.specs.declared.fault.TypeKind.TheVariants.{ArmsWrong, NotSum, UnknownName, WrongCount}
+use Rattle.declared_types.specs.declared.fault.TypeKind.TheVariants.{ArmsWrong, UnknownName, WrongCount}
 use Rattle.core_terms.specs.declared.fault.Fault.TheVariants.{At}
 use Rattle.declared_types.specs.declared.scope.ConstructorId.{ConstructorId}
 
@@ -66,21 +64,6 @@ module _ (at : Place) (count : ℕ) (table : Table) (found : Option (Numbered �
         (eq-eqb count (length types_here) same)
 
 module _ (scope : Scope) (at subject : Place) (t : Ty) (names : List (List ℕ)) where
-  pub matches_refused : (types : List Ty) (form : TyForm) → type_of_form types form ≡ t → ((named : NamedId) → form ≡ NamedForm named → ⊥)
-      → Matches scope at subject t names (Err (At NotSum subject))
-  matches_refused types form is other = λ e arms. ap (λ t. matched scope at subject e t names arms) (sym is) ∙ by e arms form other
-    where
-      by : (e : Expression) (arms : List (List Ty) → Checking TypedArms) (form : TyForm) → ((named : NamedId) → form ≡ NamedForm named → ⊥)
-          → matched scope at subject e (type_of_form types form) names arms ≡ FaultAt NotSum subject
-      by e arms (NamedForm named) other = absurd (other named refl)
-      by e arms (PairForm a b) other = refl
-      by e arms (AuthForm part) other = refl
-      by e arms UnitForm other = refl
-      by e arms BoolForm other = refl
-      by e arms IntForm other = refl
-      by e arms TextForm other = refl
-      by e arms (VecForm len part) other = refl
-
   module _ (named : NamedId) (is : t ≡ NamedTy named.0) where
     abbrev match_of : Expression → (List (List Ty) → Checking TypedArms) → Bool → Checking Typed
     match_of e arms b = unless_fault b ArmsWrong at (then_checked (arms (unwrap_or (slice_get scope.table named.0) []))

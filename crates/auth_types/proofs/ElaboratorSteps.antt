@@ -1,5 +1,5 @@
 -- Where an elaborator stands, step by step: types stay, and what they stand for.
-use Rattle.std.proofs.Common.{◌≡◌, ℕ, ◌<◌, ◌≤◌, ◌||◌, List, [], ◌∷◌, ◌++◌, length, take, drop, bytes_eq, refl, sym, ap, ◌∙◌, subst, arith}
+use Rattle.std.proofs.Common.{◌≡◌, ℕ, ◌<◌, ◌||◌, List, [], ◌∷◌, ◌++◌, length, take, drop, bytes_eq, refl, sym, ap, ◌∙◌, subst}
 use Rattle.std.specs.List.{list_any}
 use Rattle.std.proofs.lemmas.List.{drop-map, length-map, map-append, take-map}
 use Rattle.std.proofs.lemmas.List.Elements.{All-weaker}
@@ -37,9 +37,6 @@ locals_stay a b locals grows within =
     map_same (local_meant b) (local_meant a) locals
     (All-weaker (λ (l : CodeLocal). l.ty.0 < length a) (λ (l : CodeLocal). local_meant b l ≡ local_meant a l)
     (λ (l : CodeLocal) inside. ap (λ t. record { name = l.name.now; of_type = t }) (type_stays_at a b grows l.ty inside)) locals within)
-
-pub locals_more : (m n : ℕ) (locals : List CodeLocal) → m ≤ n → AreLocalsWithin m locals → AreLocalsWithin n locals
-locals_more m n locals more within = λ k d inside. let below = within k d inside in omega (arith, below)
 
 -- more types, the same scope and the same locals
 pub keeps_grown : (a b : Elaborator) → b.types.format ≡ a.types.format → Grows (types_of a) (types_of b) → b.scope.now ≡ a.scope.now → b.locals.items ≡ a.locals.items

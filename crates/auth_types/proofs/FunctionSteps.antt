@@ -63,10 +63,6 @@ entered_last format names ps ts i before locals none nothing same so_far =
 abbrev pub functions_behind : List tree.Function → Checking (List tree.Function) → Checking (List tree.Function)
 functions_behind gs found = then_checked found (λ fs. Sound (gs ++ fs))
 
-pub functions_behind_none : (found : Checking (List tree.Function)) → found ≡ functions_behind [] found
-functions_behind_none (Sound fs) = refl
-functions_behind_none (FaultAt kind at) = refl
-
 functions_behind_one : (gs : List tree.Function) (g : tree.Function) (found : Checking (List tree.Function))
     → functions_behind gs (then_checked found (λ fs. Sound (g ∷ fs))) ≡ functions_behind (gs ++ g ∷ []) found
 functions_behind_one gs g (Sound fs) = ap Sound (sym (append_assoc gs (g ∷ []) fs))

@@ -138,13 +138,6 @@ number_first (n ∷ names) name = by (number_of names name) (bytes_eq n name) (b
       none_before = All-cons (λ other. other ≡ name → ⊥) n (take k names) (λ same. let e : false ≡ true = d.1 same in absurd (cc)) first.none_before;
     }
 
-no_number : (names : List (List ℕ)) (name : List ℕ) → NoneFits (λ other. other ≡ name) names → number_of names name ≡ None
-no_number [] name none = refl
-no_number (n ∷ names) name none =
-    let P : List ℕ → Type 0 = λ other. other ≡ name → ⊥ in
-    let here : bytes_eq n name ≡ false = fails (bytes_eq n name) (bytes_eq-Decides n name) (All-head P n names none) in
-    ap (λ b. if b then Some 0 else option_map suc (number_of names name)) here ∙ ap (option_map suc) (no_number names name (All-tail P n names none))
-
 pub number_is : (names : List (List ℕ)) (name : List ℕ) (k : ℕ) → IsFirst (λ other. other ≡ name) names k name → number_of names name ≡ Some k
 number_is [] name k first = let e : None ≡ Some name = first.there in absurd (cc)
 number_is (n ∷ names) name zero first =

@@ -7,10 +7,8 @@ use Rattle.std.proofs.lemmas.Option.{get_or_from_slice_get}
 use Rattle.core_terms.specs.declared.term.BinaryOperator.{BinaryOperator}
 use Rattle.core_terms.specs.Types.{Ty, is_length, UnitTy, BoolTy, IntTy, TextTy, PairTy, AuthTy, same_type}
 use Rattle.core_terms.specs.Terms.{Expression, LenE, NotE}
-use Rattle.core_terms.specs.ProgramFormats.{arrays_of}
 use Rattle.core_terms.specs.TypeTables.{is_form_in, type_at, stands_behind, type_of_form}
 use Rattle.core_terms.specs.declared.format.Format.{Format}
-use Rattle.core_terms.specs.declared.format.Format.TheVariants.{First, Second}
 use Rattle.core_terms.specs.ProgramTrees.{expression_of}
 use Rattle.core_terms.specs.declared.types.TyId.{TyId}
 use Rattle.core_terms.specs.declared.types.TyForm.{TyForm}
@@ -218,11 +216,6 @@ plain_form types (PairForm a b) plain = absurd (omega (arith, ltb-true a.0 0 (fi
 pub leaf_in : (format : Format) (form : TyForm) → stands_behind 0 form ≡ true → is_form_in format form ≡ true
 leaf_in format (VecForm len part) h = absurd (omega (arith, ltb-true part.0 0 (first_true (nat_lt part.0 0) (is_length len) h)))
 leaf_in format form h = refl
-
--- a format without arrays is the first
-pub plain_is_first : (format : Format) → arrays_of format ≡ false → format ≡ First
-plain_is_first First h = refl
-plain_is_first Second h = absurd (cc)
 
 -- the parts of a form that stand behind it are in the table
 pub pair_inside : (n m : ℕ) (a b : TyId) → stands_behind n (PairForm a b) ≡ true → n < m → (a.0 < m) × (b.0 < m)

@@ -55,10 +55,6 @@ module _ (program : Program) where
     after_names : all_passes program ≡ behind_names
     after_names = names_first ∙ ap (λ found. then_checked found (λ _. behind_names)) known
 
-    pub third_fault : (fault : TypeFault) → IsRefused (third_pass program) fault → IsRefused (all_passes program) fault
-    third_fault fault refused =
-        same_refused (all_passes program) behind_names fault after_names (then_refused (third_pass program) (λ _. behind_third) fault refused)
-
     module _ (third : third_pass program ≡ Sound tt) where
       after_third : all_passes program ≡ behind_third
       after_third = after_names ∙ ap (λ found. then_checked found (λ _. behind_third)) third

@@ -6,17 +6,16 @@ use Rattle.core_terms.specs.Texts.{bytes_of}
 use Rattle.core_terms.specs.declared.term.Name.{Name}
 use Rattle.core_terms.specs.declared.term.Text.{Text}
 use Rattle.auth_syntax.specs.Parsing.{in_a_row}
-use Rattle.auth_syntax.specs.Syntax.{UnitSyntax, BoolSyntax, IntSyntax, TextSyntax, LocalSyntax, PairSyntax, UnarySyntax, BinarySyntax, CallSyntax, ConstructorSyntax, OperateSyntax, LetSyntax, IfSyntax, MatchSyntax}
-use Rattle.auth_syntax.specs.Trees.{ArmSyntax, expression_of, arm_of, arm_from_parts, expression_from_parts, arms_in_a_row, array_of, name_of, names_of, unary_of}
+use Rattle.auth_syntax.specs.Syntax.{UnitSyntax, BoolSyntax, IntSyntax, TextSyntax, LocalSyntax, PairSyntax, BinarySyntax, CallSyntax, ConstructorSyntax, OperateSyntax, LetSyntax, IfSyntax, MatchSyntax}
+use Rattle.auth_syntax.specs.Trees.{ArmSyntax, expression_of, arm_of, arm_from_parts, expression_from_parts, arms_in_a_row, array_of, name_of, names_of}
 use Rattle.lexemes.specs.declared.place.Place.{Place}
 use Rattle.auth_syntax.specs.declared.tree.PlacedName.{PlacedName}
-use Rattle.auth_syntax.specs.declared.tree.UnaryOperator.{UnaryOperator}
 use Rattle.auth_syntax.specs.declared.tree.ArrayOperator.{ArrayOperator}
 use Rattle.core_terms.specs.declared.term.BinaryOperator.{BinaryOperator}
 use Rattle.auth_syntax.specs.declared.tree.Arm.{Arm, out-Arm}
 use Rattle.auth_syntax.specs.declared.tree.ExpTree.{ExpTree}
 use Rattle.auth_syntax.specs.declared.tree.ExpTree as tree
-use Rattle.auth_syntax.specs.declared.tree.ExpTree.TheVariants.{rolls-UnitLiteral, rolls-BoolLiteral, rolls-IntLiteral, rolls-TextLiteral, rolls-Local, rolls-Pair, rolls-Unary, rolls-Binary, rolls-Call, rolls-Constructor, rolls-Operate, rolls-Let, rolls-If, rolls-Match}
+use Rattle.auth_syntax.specs.declared.tree.ExpTree.TheVariants.{rolls-UnitLiteral, rolls-BoolLiteral, rolls-IntLiteral, rolls-TextLiteral, rolls-Local, rolls-Pair, rolls-Binary, rolls-Call, rolls-Constructor, rolls-Operate, rolls-Let, rolls-If, rolls-Match}
 use Rattle.auth_syntax.specs.declared.tree.ExpTree.TheFolds.{fold-roll-ExpTree, fold_out-Arm}
 use Rattle.auth_syntax.specs.Syntax.{ExpSyntax}
 
@@ -38,10 +37,6 @@ expression-Local at name = ap expression_of (sym (rolls-Local at name)) ∙ fold
 pub expression-Pair : (at : Place) (first second : Box ExpTree Global)
     → expression_of (tree.Pair at first second) ≡ PairSyntax at (expression_of first.value) (expression_of second.value)
 expression-Pair at first second = ap expression_of (sym (rolls-Pair at first second)) ∙ fold-roll-ExpTree _ _ _ _ _
-
-pub expression-Unary : (at : Place) (operation : UnaryOperator) (operand : Box ExpTree Global)
-    → expression_of (tree.Unary at operation operand) ≡ UnarySyntax at (unary_of operation) (expression_of operand.value)
-expression-Unary at operation operand = ap expression_of (sym (rolls-Unary at operation operand)) ∙ fold-roll-ExpTree _ _ _ _ _
 
 pub expression-Binary : (at : Place) (operation : BinaryOperator) (first second : Box ExpTree Global)
     → expression_of (tree.Binary at operation first second) ≡ BinarySyntax at operation (expression_of first.value) (expression_of second.value)

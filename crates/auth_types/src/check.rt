@@ -23,13 +23,13 @@ use std::alloc::Global;
 /// # Errors
 ///
 /// `At` with the first fault, by place, of the first pass that has one, and `NoMemory` where there is no memory for the program.
-pub fn check(alloc: Global, ast: Ast, digest: Digest) -> Result<Program, TypeFault>
-    ensures answer { Checks (checked (written.program_of ast)) result }
+pub fn check(alloc: Global, ast: &Ast, digest: Digest) -> Result<Program, TypeFault>
+    ensures answer { Checks (checked (written.program_of ast.now)) result }
     ensures digest { IfOk result (λ p. p.text_digest ≡ digest) }
-    ensures types { IfOk result (λ p. type_names p.types.named.items ≡ names_of (written.program_of ast)) }
-    ensures constructors { IfOk result (λ p. constructors_meant p.types.named.items ≡ constructors_in (written.declarations_of ast.declarations)) }
+    ensures types { IfOk result (λ p. type_names p.types.named.items ≡ names_of (written.program_of ast.now)) }
+    ensures constructors { IfOk result (λ p. constructors_meant p.types.named.items ≡ constructors_in (written.declarations_of ast.now.declarations)) }
 {
-    all_passes(alloc, &ast, digest)
+    all_passes(alloc, ast, digest)
 }
 
 /// One pass after another.

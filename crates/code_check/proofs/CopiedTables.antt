@@ -22,10 +22,7 @@ front_means a b (PairForm first second) h =
     ap₂ PairTy (get_or-append a b UnitTy first.0 (ltb-true first.0 (length a) (first_of _ _ h)))
     (get_or-append a b UnitTy second.0 (ltb-true second.0 (length a) (second_of (nat_lt first.0 (length a)) _ h)))
 
--- a form without parts means the same everywhere
-pub plain_means : (types : List Ty) (form : TyForm) → stands_behind 0 form ≡ true → type_of_form types form ≡ type_of_form [] form
-plain_means types form h = front_means [] types form h
-
+-- a form without parts stands behind any number of types
 pub plain_stands : (n : ℕ) (form : TyForm) → stands_behind 0 form ≡ true → stands_behind n form ≡ true
 plain_stands n UnitForm h = refl
 plain_stands n BoolForm h = refl

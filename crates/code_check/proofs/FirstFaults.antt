@@ -69,31 +69,6 @@ module _ (B : Body) (z : Ty) where
           up : (n : ℕ) → suc n ≡ n + 1
           up n = omega arith
 
-  -- one that has a way that can't be gone
-  pub fault_here : (old new : List Ty) (i : meant.Instruction) (is : List meant.Instruction) (place : ℕ) (at : Frame) (rest after : List Known) (ks : List kinds.Known)
-      → IsGone old at rest (λ s. ways B z i s.locals s.operands) new after false → AreKnown old (Reached at ∷ rest) ks → first_fault B z (i ∷ is) place ks ≡ Some place
-  fault_here old new i is place at rest after [] gone h = elim h [ ]
-  fault_here old new i is place at rest after (kinds.Unreached ∷ ks) gone h = elim h.0 [ ]
-  fault_here old new i is place at rest after (kinds.Clashing ∷ ks) gone h = elim h.0 [ ]
-  fault_here old new i is place at rest after (kinds.Reached s ∷ ks) gone h = by (option_and_then (λ ws. reach_all ws ks) (ways B z i s.locals s.operands)) refl (gone ks s h.1 h.0)
-    where
-      by : (o : Option (List kinds.Known)) → option_and_then (λ ws. reach_all ws ks) (ways B z i s.locals s.operands) ≡ o → IsReached new o after false
-          → first_fault B z (i ∷ is) place (kinds.Reached s ∷ ks) ≡ Some place
-      by None e r = ap (λ o. fault_or B z o place (first_fault B z is (suc place))) e
-      by (Some later) e r = elim r [ ]
-
-  -- one that isn't reached, or in two ways
-  pub fault_unless : (types : List Ty) (i : meant.Instruction) (is : List meant.Instruction) (place : ℕ) (x : Known) (rest : List Known) (ks : List kinds.Known)
-      → ((at : Frame) → x ≡ Reached at → ⊥) → AreKnown types (x ∷ rest) ks → first_fault B z (i ∷ is) place ks ≡ Some place
-  fault_unless types i is place x rest [] not h = elim h [ ]
-  fault_unless types i is place (Reached at) rest (k ∷ ks) not h = absurd (not at refl)
-  fault_unless types i is place Unreached rest (kinds.Unreached ∷ ks) not h = refl
-  fault_unless types i is place Unreached rest (kinds.Reached s ∷ ks) not h = elim h.0 [ ]
-  fault_unless types i is place Unreached rest (kinds.Clashing ∷ ks) not h = elim h.0 [ ]
-  fault_unless types i is place Clashing rest (kinds.Clashing ∷ ks) not h = refl
-  fault_unless types i is place Clashing rest (kinds.Unreached ∷ ks) not h = elim h.0 [ ]
-  fault_unless types i is place Clashing rest (kinds.Reached s ∷ ks) not h = elim h.0 [ ]
-
 unreached : (types table : List Ty) (is : List Instruction) → AreKnown types (replicate (length is) Unreached) (map (λ (i : meant.Instruction). kinds.Unreached) (instructions_of table is))
 unreached types table [] = tt
 unreached types table (i ∷ is) = (tt, unreached types table is)

@@ -4,7 +4,7 @@ use Rattle.std.specs.List.{list_all}
 use Rattle.std.specs.Option.{option_and_then}
 use Rattle.std.specs.declared.alloc.AllocError.{AllocError}
 use Rattle.std.proofs.lemmas.List.{reverse-append, length-reverse}
-use Rattle.core_terms.specs.Types.{Ty, UnitTy, BoolTy, IntTy, TextTy, PairTy, NamedTy, AuthTy, VecTy, same_type}
+use Rattle.core_terms.specs.Types.{Ty, UnitTy, BoolTy, IntTy, TextTy, PairTy, NamedTy, AuthTy, VecTy}
 use Rattle.core_terms.specs.CodeShapes.{Shape, shape}
 use Rattle.core_terms.specs.Bodies.{Body}
 use Rattle.core_terms.specs.InstructionViews.{instruction_of}
@@ -24,7 +24,7 @@ use Rattle.code_check.specs.declared.known.Known.TheVariants.{Unreached, Reached
 use Rattle.code_check.specs.TypeLists.{IsList, IsLeft, Grows}
 use Rattle.code_check.specs.KnownTypes.{IsFrame, IsKnown, AreKnown, IsReached}
 use Rattle.code_check.specs.CodeTypes.{is_listable}
-use Rattle.code_check.specs.KindSteps.{IsNext, IsGone, LeadsTo, is_return, is_straight}
+use Rattle.code_check.specs.KindSteps.{IsNext, IsGone, LeadsTo, is_straight}
 use Rattle.core_terms.proofs.SameTypes.{first_of, second_of}
 use Rattle.code_check.proofs.ListsOfTypes.{below_more, list_stays, types_stay}
 use Rattle.code_check.proofs.SteppedFrames.{frame, frame_stays}
@@ -168,16 +168,6 @@ module _ (B : Body) (z : Ty) where
       by true = refl
       by false = refl
 
-  pub not_branched : (old new : List Ty) (at : Frame) (behind after : List Known) (n : ℕ) → ((os : List Ty) → IsList old at.operands os → IsLeft new (without_one BoolTy os) None)
-      → IsGone old at behind (λ s. ways B z (meant.Branch n) s.locals s.operands) new after false
-  not_branched old new at behind after n f ks s k h =
-      subst (λ o. IsReached new (option_and_then (λ ws. reach_all ws ks) o) after false) (sym (branch_ways n s.locals s.operands)) (by (without_one BoolTy s.operands) (f s.operands h.1))
-    where
-      by : (o : Option (List Ty)) → IsLeft new o None
-          → IsReached new (option_and_then (λ ws. reach_all ws ks) (option_map (λ under. way 0 s.locals under ∷ (way n s.locals under ∷ [])) o)) after false
-      by None i = tt
-      by (Some under) i = elim i [ ]
-
   -- both ways were tried, the second where the first was gone
   pub branched : (old new : List Ty) (at : Frame) (left : TyId) (behind mid after : List Known) (n : ℕ) (fine : Bool) → Grows old new
       → ((os : List Ty) → IsList old at.operands os → IsLeft new (without_one BoolTy os) (Some left))
@@ -207,18 +197,6 @@ module _ (B : Body) (z : Ty) where
           gone_not new mid after (way 0 s.locals under) (way n s.locals under ∷ []) ks
           (one ks (shape s.locals under) (all_stay old new behind ks g k) (list_stays old new at.locals (reverse s.locals) g h.0, i))
 
-  pub not_switched : (old new : List Ty) (at : Frame) (behind after : List Known) (number : ℕ) (places : List ℕ)
-      → ((os : List Ty) → IsList old at.operands os → IsLeft new (without_one (NamedTy number) os) None)
-      → IsGone old at behind (λ s. ways B z (meant.Switch number places) s.locals s.operands) new after false
-  not_switched old new at behind after number places f ks s k h =
-      subst (λ o. IsReached new (option_and_then (λ ws. reach_all ws ks) o) after false) (sym (switch_ways number places s.locals s.operands))
-      (by (without_one (NamedTy number) s.operands) (f s.operands h.1))
-    where
-      by : (o : Option (List Ty)) → IsLeft new o None
-          → IsReached new (option_and_then (λ ws. reach_all ws ks) (option_and_then (λ under. ways_by_tag s.locals under (unwrap_or (slice_get B.types number) []) places) o)) after false
-      by None i = tt
-      by (Some under) i = elim i [ ]
-
   pub switched : (old mid new : List Ty) (at : Frame) (left : TyId) (behind after : List Known) (number : ℕ) (places : List ℕ) (cs : List (List Ty)) (fine : Bool) → Grows old mid
       → ((os : List Ty) → IsList old at.operands os → IsLeft mid (without_one (NamedTy number) os) (Some left)) → cs ≡ unwrap_or (slice_get B.types number) []
       → IsGone mid (frame at.locals left) behind (λ s. ways_by_tag s.locals s.operands cs places) new after fine
@@ -244,29 +222,6 @@ stepped old mid at next behind after go fine g leads went ks s k h = by (go s) (
     by (Some (w ∷ [])) i =
         subst (λ n. IsReached mid (reach_all (way n w.at.locals w.at.operands ∷ []) ks) after fine) (sym i.0) (went ks w.at (all_stay old mid behind ks g k) i.1)
     by (Some (w ∷ (v ∷ ws))) i = elim i [ ]
-
-pub not_stepped : (old mid : List Ty) (at : Frame) (behind after : List Known) (go : Shape → Option (List Way)) → LeadsTo old at go mid None → IsGone old at behind go mid after false
-not_stepped old mid at behind after go leads ks s k h = by (go s) (leads s h)
-  where
-    by : (o : Option (List Way)) → IsNext mid o None → IsReached mid (option_and_then (λ ws. reach_all ws ks) o) after false
-    by None i = tt
-    by (Some []) i = elim i [ ]
-    by (Some (w ∷ [])) i = elim i [ ]
-    by (Some (w ∷ (v ∷ ws))) i = elim i [ ]
-
--- a return has no way on
-pub gone_back : (B : Body) (types : List Ty) (z : Ty) (at : Frame) (behind : List Known) (fine : Bool) → ((os : List Ty) → IsList types at.operands os → fine ≡ is_return z os)
-    → IsGone types at behind (λ s. ways B z meant.Return s.locals s.operands) types behind fine
-gone_back B types z at behind fine f ks s k h = by s.operands (f s.operands h.1)
-  where
-    one : (b : Bool) → fine ≡ b → IsReached types (option_and_then (λ ws. reach_all ws ks) (if b then Some [] else None)) behind fine
-    one true e = subst (λ b. IsReached types (Some ks) behind b) (sym e) k
-    one false e = subst (λ b. IsReached types None behind b) (sym e) tt
-
-    by : (os : List Ty) → fine ≡ is_return z os → IsReached types (option_and_then (λ ws. reach_all ws ks) (ways B z meant.Return s.locals os)) behind fine
-    by [] e = one false e
-    by (t ∷ []) e = one (same_type t z) e
-    by (t ∷ (u ∷ os)) e = one false e
 
 -- the ways by tag, where there is a place for each constructor
 module _ (types : List Ty) where

@@ -1,7 +1,7 @@
 -- A list is known by its type, and a table that grows keeps what its numbers stand for.
-use Rattle.std.proofs.Common.{◌≡◌, ◌<◌, ◌≤◌, ◌+◌, ◌-◌, ℕ, zero, suc, true, ◌&&◌, List, [], ◌∷◌, ◌++◌, length, take, drop, reverse, get_or, Option, Some, None, slice_get, nat_lt, refl, sym, ap, ap₂, ◌∙◌, subst, append_assoc, append-nil, ltb-true, arith}
+use Rattle.std.proofs.Common.{◌≡◌, ◌<◌, ◌≤◌, ◌+◌, ◌-◌, ℕ, zero, suc, true, ◌&&◌, List, [], ◌∷◌, ◌++◌, length, drop, get_or, Option, Some, None, slice_get, nat_lt, refl, sym, ap, ap₂, ◌∙◌, subst, append_assoc, append-nil, ltb-true, arith}
 use Rattle.std.proofs.lemmas.Bool.{lt-ltb}
-use Rattle.std.proofs.lemmas.List.{take_more, length-append, map-append, reverse-append}
+use Rattle.std.proofs.lemmas.List.{length-append}
 use Rattle.std.proofs.Math.ListN.{get_or-append}
 use Rattle.core_terms.specs.Types.{Ty, UnitTy, PairTy}
 use Rattle.core_terms.specs.ProgramTrees.{are_below, types_at}
@@ -61,29 +61,12 @@ below_at n [] i id h l e = absurd (omega (arith, l))
 below_at n (x ∷ ids) zero id h l e = subst (λ (y : TyId). y.0 < n) (sym e) (ltb-true x.0 n (first_of _ _ h))
 below_at n (x ∷ ids) (suc i) id h l e = below_at n ids i id (second_of (nat_lt x.0 n) _ h) (omega (arith, l)) e
 
--- one type more on a stack
-pub stack_more : (types : List Ty) (ids : List TyId) (i : ℕ) (id : TyId) → i < length ids → id ≡ get_or ids i id
-    → reverse (types_at types (take (i + 1) ids)) ≡ type_at types id ∷ reverse (types_at types (take i ids))
-stack_more types ids i id l e =
-    ap (λ ids. reverse (types_at types ids)) (take_more ids i id l)
-    ∙ ap reverse (map-append (type_at types) (take i ids) (get_or ids i id ∷ []))
-    ∙ reverse-append (types_at types (take i ids)) (type_at types (get_or ids i id) ∷ [])
-    ∙ ap (λ x. type_at types x ∷ reverse (types_at types (take i ids))) (sym e)
-
 -- how many types stand in a list, one by one
 pub counted : (types ts : List Ty) (top : Top) (n : ℕ) → IsTop types ts (Some top) → ((us : List Ty) → IsList types top.others us → n ≡ length us) → n + 1 ≡ length ts
 counted types [] top n h f = elim h [ ]
 counted types (t ∷ us) top n h f = omega (arith, f us h.1)
 
-pub none_counted : (types ts : List Ty) → IsTop types ts None → 0 ≡ length ts
-none_counted types [] h = refl
-none_counted types (t ∷ us) h = elim h [ ]
-
 -- a list without so many types at its front
-pub none_off : (types : List Ty) (list : TyId) (n : ℕ) (ts : List Ty) → n ≡ 0 → IsList types list ts → IsLeft types (first_off n ts) (Some list)
-none_off types list zero ts e h = h
-none_off types list (suc n) ts e h = absurd (omega (arith, e))
-
 pub too_few : (types : List Ty) (n : ℕ) (ts : List Ty) → (n ≡ 0 → ⊥) → IsTop types ts None → IsLeft types (first_off n ts) None
 too_few types zero ts e h = absurd (e refl)
 too_few types (suc n) [] e h = tt

@@ -63,13 +63,6 @@ module _ (B : Body) (z : Ty) where
       by None there = elim there [ ]
       by (Some t) there = (refl, with_operand old new s.locals s.operands at.locals at.operands ty operands t g h.0 h.1 there f)
 
-  pub nothing_loaded : (types : List Ty) (i : ℕ) (s : Shape) → IsThere types (slice_get s.locals i) None → IsNext types (ways B z (meant.Load i) s.locals s.operands) None
-  nothing_loaded types i s there = by (slice_get s.locals i) there
-    where
-      by : (o : Option Ty) → IsThere types o None → IsNext types (option_and_then (λ t. next s.locals (t ∷ s.operands)) o) None
-      by None there = tt
-      by (Some t) there = elim there [ ]
-
   pub bound_next : (old new : List Ty) (at : Frame) (top : Top) (locals : TyId) (s : Shape) → Grows old new → IsFrame old at s → IsTop old s.operands (Some top)
       → ((ts : List Ty) → IsList old at.locals ts → IsList new locals (type_at old top.first ∷ ts))
       → IsNext new (ways B z meant.Bind s.locals s.operands) (Some (frame locals top.others))
@@ -81,13 +74,6 @@ module _ (B : Body) (z : Ty) where
           let list : IsList new locals (u ∷ reverse s.locals) =
           subst (λ u. IsList new locals (u ∷ reverse s.locals)) (get_or_from_slice_get old top.first.0 u UnitTy t.0) (f (reverse s.locals) h.0) in
           (refl, (subst (IsList new locals) (sym (reverse-append s.locals (u ∷ []))) list, list_stays old new top.others os g t.1))
-
-  pub nothing_bound : (types : List Ty) (s : Shape) → IsTop types s.operands None → IsNext types (ways B z meant.Bind s.locals s.operands) None
-  nothing_bound types s t = by s.operands t
-    where
-      by : (os : List Ty) → IsTop types os None → IsNext types (ways B z meant.Bind s.locals os) None
-      by [] t = tt
-      by (u ∷ os) t = elim t [ ]
 
   drop-reverse : (ls : List Ty) (n : ℕ) → n ≤ length ls → drop n (reverse ls) ≡ reverse (take (length ls - n) ls)
   drop-reverse ls n l =
@@ -144,25 +130,6 @@ module _ (B : Body) (z : Ty) where
       by : (os : List Ty) → IsTop old os (Some second) → IsNext new (ways B z meant.Pair s.locals os) (Some (frame at.locals operands))
       by [] t = elim t [ ]
       by (b ∷ os) t = both os b t.0 (f os t.1)
-
-  pub nothing_paired : (types : List Ty) (s : Shape) → IsTop types s.operands None → IsNext types (ways B z meant.Pair s.locals s.operands) None
-  nothing_paired types s t = by s.operands t
-    where
-      by : (os : List Ty) → IsTop types os None → IsNext types (ways B z meant.Pair s.locals os) None
-      by [] t = tt
-      by (u ∷ os) t = elim t [ ]
-
-  pub one_alone : (types : List Ty) (s : Shape) (second : Top) → IsTop types s.operands (Some second) → ((ts : List Ty) → IsList types second.others ts → IsTop types ts None)
-      → IsNext types (ways B z meant.Pair s.locals s.operands) None
-  one_alone types s second t f = by s.operands t
-    where
-      rest : (os : List Ty) (b : Ty) → IsTop types os None → IsNext types (ways B z meant.Pair s.locals (b ∷ os)) None
-      rest [] b u = tt
-      rest (a ∷ os) b u = elim u [ ]
-
-      by : (os : List Ty) → IsTop types os (Some second) → IsNext types (ways B z meant.Pair s.locals os) None
-      by [] t = elim t [ ]
-      by (b ∷ os) t = rest os b (f os t.1)
 
 -- the one operand of a return
 same_bool : (r : Bool) (t z : Ty) → (IsTrue r ↔ (t ≡ z)) → r ≡ same_type t z

@@ -37,8 +37,7 @@ use Rattle.collision_audit.specs.Audits.{Audit, audit_of, verdict_on_projections
 use Rattle.collision_audit.specs.Splits.{offered_in, rest_behind, split_of}
 use Rattle.collision_audit.proofs.AuditHeadline.{agreement_is_true, collides, judges}
 use Rattle.collision_audit.proofs.FirstSplits.{no_split_is_found, split_is_found}
-use Rattle.collision_audit.specs.AuditAnswers.{TellsAudit, split_told}
-use Rattle.collision_audit.specs.AuditsInCode.{AuditsTruly}
+use Rattle.collision_audit.specs.AuditsInCode.{TellsAudit, split_told, AuditsTruly}
 use Rattle.collision_audit.specs.Comparing.{ComparesAll, TellsDifference}
 use Rattle.collision_audit.specs.PieceAudits.{audit_file, outcome_seen, run_audit}
 use Rattle.collision_audit.specs.declared.audited.AuditFault.{AuditFault}

@@ -103,11 +103,6 @@ pub record Stands (hash : Hash) (format : Format) (honest : List Piece) (count :
   pub audit : (outcome : Outcome) → audit_from hash format outcome 0 honest count o ≡ audit_from hash format outcome i later bytes_left offer
   pub behind : (j : ℕ) → left_behind o (i + j) ≡ left_behind offer j
 
-pub stands_first : (hash : Hash) (format : Format) (honest : List Piece) (count : ℕ) (o : Offer) (limit : ℕ) (ring : Kept) (left : Option (List ℕ)) → IsAhead limit ring left count o
-    → Stands hash format honest count o 0 honest limit ring left
-stands_first hash format honest count o limit ring left ahead =
-    record { bytes_left = count; offer = o; ahead = ahead; audit = λ outcome. refl; behind = λ j. let e : 0 + j ≡ j = omega arith in ap (left_behind o) e }
-
 module _ (hash : Hash) (format : Format) (honest : List Piece) (count : ℕ) (o : Offer) (i : ℕ) (limit : ℕ) (ring : Kept) (left : Option (List ℕ)) where
   abbrev Audit_now : Outcome → Audit
   Audit_now outcome = audit_from hash format outcome 0 honest count o

@@ -1,20 +1,28 @@
 -- Audits, as their functions tell them.
-use Rattle.std.specs.Prelude.{◌≡◌, ℕ, List, [], length, Option, Some, Result, Ok, Err, ⊤}
+use Rattle.std.specs.Prelude.{◌≡◌, ℕ, List, [], length, Option, Some, Result, Ok, Err, ⊤, option_map}
 use Rattle.lam_outside.specs.Causes.{Rose}
 use Rattle.core_terms.specs.Formats.{Hash}
 use Rattle.core_terms.specs.Terms.{Program, function_at}
 use Rattle.core_terms.specs.Values.{Value}
 use Rattle.core_terms.specs.declared.cause.Cause.TheVariants as cause
 use Rattle.ideal_meaning.specs.Headline.{call_values}
-use Rattle.ideal_meaning.specs.Ideal.{bytes_of, honest_pieces}
+use Rattle.ideal_meaning.specs.Ideal.{bytes_of, honest_pieces, Outcome}
 use Rattle.ideal_meaning.specs.SpelledOutcomes.{SpellsOutcome}
-use Rattle.collision_audit.specs.Splits.{IsSplit, offered_in, rest_behind}
+use Rattle.collision_audit.specs.Splits.{IsSplit, offered_in, rest_behind, Split, HasNoSplit}
 use Rattle.collision_audit.specs.PieceAudits.{outcome_seen}
 use Rattle.collision_audit.specs.declared.audited.AuditFault.{AuditFault}
 use Rattle.collision_audit.specs.declared.audited.AuditFault.TheVariants.{ReadFault, NoMemory}
 use Rattle.collision_audit.specs.declared.audited.Audited.{Audited}
 use Rattle.collision_audit.specs.declared.audited.Audited.TheVariants.{Agrees, Collision, Rejected}
-use Rattle.collision_audit.specs.AuditAnswers.{HasNoSplit, split_told}
+use Rattle.core_terms.specs.declared.digest.Digest.{Digest}
+use Rattle.ideal_meaning.specs.Checked as checked
+use Rattle.ideal_meaning.specs.Told.{cause_told}
+use Rattle.collision_audit.specs.Audits.{Audit, Collides, Judges}
+use Rattle.collision_audit.specs.declared.audited.Collision.{Collision as Shown}
+
+-- the split that a collision of the code shows
+abbrev pub split_told : Shown → Split
+split_told c = record { place = c.place; offered = c.offered; honest = c.honest; print = option_map (λ (digest : Digest). digest.0) c.print }
 
 -- The headline of an audit, with the ideal state and argument at hand. An outcome on which it agrees is the projection of the ideal one,
 -- and all offered pieces are the honest ones. A collision is where the offered pieces split from the honest ones, and shows the two
@@ -51,3 +59,10 @@ abbrev pub AuditCause : {T : Type 0} → (before now : ℕ) → Result T AuditFa
 AuditCause before now (Ok told) = now ≡ before
 AuditCause before now (Err ReadFault) = Rose before now
 AuditCause before now (Err NoMemory) = now ≡ before
+
+-- The answer tells the audit of a call of function f, with each field; where the source failed or memory was wanting it tells nothing.
+abbrev pub TellsAudit : Program → ℕ → Audit → Result Audited AuditFault → Type 0
+TellsAudit P f audit (Ok (Agrees told)) = (o : Outcome) × (audit ≡ Judges (checked.Accepted o)) × SpellsOutcome P (function_at P f).result o told
+TellsAudit P f audit (Ok (Collision c)) = audit ≡ Collides (split_told c)
+TellsAudit P f audit (Ok (Rejected cause)) = audit ≡ Judges (checked.Rejected (cause_told cause))
+TellsAudit P f audit (Err e) = ⊤

@@ -10,8 +10,7 @@ use Rattle.proof_stream.specs.declared.frame.FrameEnd.{FrameEnd}
 use Rattle.reuse_buffer.specs.Kept.{Kept, kept}
 use Rattle.verifier_mode.specs.Faults.{end_told}
 use Rattle.collision_audit.specs.Audits.{Audit, Collides, Judges}
-use Rattle.collision_audit.specs.AuditAnswers.{split_told}
-use Rattle.collision_audit.specs.AuditsInCode.{AreLeft, StopsBehind}
+use Rattle.collision_audit.specs.AuditsInCode.{split_told, AreLeft, StopsBehind}
 use Rattle.collision_audit.specs.declared.audited.AuditFault.{AuditFault}
 use Rattle.collision_audit.specs.declared.audited.Audited.{Audited}
 use Rattle.collision_audit.specs.declared.audited.Audited.TheVariants as audited

@@ -4,6 +4,5 @@ pub mod AuditLaws
 pub mod AuditRows
 pub mod PieceAudits
 pub mod PieceLaws
-pub mod AuditAnswers
 pub mod Comparing
 pub mod AuditsInCode

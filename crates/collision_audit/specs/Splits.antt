@@ -7,6 +7,8 @@ use Rattle.ideal_meaning.specs.SplitPieces.{IsSplitAt}
 use Rattle.ideal_meaning.specs.Frames.{Offer, NoMore, Offers, header, offered, offered_pieces}
 use Rattle.ideal_meaning.specs.Headline.{call_values}
 use Rattle.ideal_meaning.specs.Ideal.{Piece, bytes_of, honest_pieces}
+use Rattle.core_terms.specs.Projection.{digest_at}
+use Rattle.ideal_meaning.specs.SplitPieces as split_pieces
 
 -- a place at which the two pieces differ and have one digest, these pieces, and the fingerprint that the digest tells, where it tells one
 pub record Split : Type 0 where
@@ -62,3 +64,8 @@ left_behind (Offers bytes left more) (suc place) = left_behind more place
 -- how many bytes of a proof file are left behind the frame of the piece at a place, where the header is good and the frame is there
 abbrev pub rest_behind : Format → List ℕ → (place : ℕ) → Option ℕ
 rest_behind format bytes place = option_and_then (λ n. left_behind (offered format.limit (drop 6 bytes) n []) place) (header format bytes)
+
+-- nowhere do the pieces that the proof offers split from the honest ones
+abbrev pub HasNoSplit : Hash → Program → ℕ → (state argument : Value) → ℕ → List ℕ → Type 0
+HasNoSplit hash P f state argument k proof =
+    (i : ℕ) → split_pieces.IsSplitAt (digest_at hash P) (offered_in P.format proof) (honest_pieces hash P f (call_values state argument) k) i → ⊥

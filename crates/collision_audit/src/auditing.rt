@@ -14,8 +14,7 @@ ghost use Rattle.mode_vm.specs.Meanings.{program_of};
 ghost use Rattle.mode_vm.specs.StateCalls.{IsCalledOn, TakesState};
 ghost use Rattle.prover_mode.specs.Seen.{AreSeen};
 ghost use Rattle.collision_audit.specs.Audits.{audit_of};
-ghost use Rattle.collision_audit.specs.AuditAnswers.{TellsAudit};
-ghost use Rattle.collision_audit.specs.AuditsInCode.{AuditCause, AuditsTruly, StopsAtDifference};
+ghost use Rattle.collision_audit.specs.AuditsInCode.{TellsAudit, AuditCause, AuditsTruly, StopsAtDifference};
 ghost use Rattle.collision_audit.specs.PieceAudits.{run_audit};
 
 use crate::audited::{AuditFault, Audited};
@@ -27,9 +26,10 @@ use prover_mode::{ProverRun, prover_run, spelled_outcome};
 use std::alloc::Global;
 use value_store::{Nodes, Ref};
 
-/// Audits a proof of a call of a query or an update with this much fuel (at most 10^12), on an ideal state and argument, which stand in
-/// the store over the prover's nodes and so are within the limits. The proof is a proof file, which may ask for as many pieces to be
-/// kept as the program's format allows; it is read as it is needed, and no more of it is held than a piece and the pieces kept.
+/// Audits a proof of a call of a query or an update with this much fuel (at most 10^12), on an ideal state and argument, which stand over
+/// the prover's nodes, and so are within the limits, in a store with the limit of the program's format. The proof is a proof file, which
+/// may ask for as many pieces to be kept as the program's format allows; it is read as it is needed, and no more of it is held than a
+/// piece and the pieces kept.
 ///
 /// `Collision` comes exactly where, at the first place at which the offered pieces and the honest ones differ, both have a piece and the
 /// two have one digest: it has that place and both pieces. Else the answer is that of a verifier who is given the spellings of the

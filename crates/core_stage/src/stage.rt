@@ -15,7 +15,7 @@ ghost use Rattle.serve_core.specs.Serving.{Serves};
 use auth_syntax::parser::parse;
 use auth_types::check::check;
 use code_gen::Code;
-use core_terms::{Hash32, Program};
+use core_terms::{Hash32, MOST_PROGRAM_BYTES, Program};
 use digest_layer::{ProverMarker, Sha};
 use images::{Loaded, load_image};
 use lam_outside::MemLink;
@@ -24,9 +24,6 @@ use session_turns::{Gate, NoGate};
 use std::alloc::{AllocError, Global};
 use std::thread::Threads;
 use wire_form::{ReadStop, Reply, read_request, write_reply};
-
-/// The longest text of a program, in bytes.
-const MAX_PROGRAM: usize = 262_144;
 
 /// What is served: the text of a program, and the records of the image of its first version.
 #[derive(Clone, Copy)]
@@ -38,13 +35,13 @@ pub struct Stage {
 
 /// The code of a text.
 pub fn code_of(alloc: Global, text: &[u8]) -> Result<Code, AllocError> {
-    if text.len() > MAX_PROGRAM {
+    if text.len() > MOST_PROGRAM_BYTES {
         return Err(AllocError);
     }
     let Ok(ast) = parse(alloc, text) else {
         return Err(AllocError);
     };
-    match check(alloc, ast, Sha::of(text)) {
+    match check(alloc, &ast, Sha::of(text)) {
         Ok(program) => Code::generate(program, alloc),
         Err(_) => Err(AllocError),
     }

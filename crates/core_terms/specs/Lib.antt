@@ -19,6 +19,7 @@ pub mod Texts
 pub mod ProgramTrees
 pub mod ProgramTypes
 pub mod ProgramLimits
+pub mod Limits
 pub mod TypeNames
 pub mod InstructionViews
 pub mod ProgramParts

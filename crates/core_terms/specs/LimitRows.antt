@@ -1,10 +1,11 @@
--- Names, expressions and programs at their limits. Each equation holds by computing both sides.
+-- Names, expressions and programs at their limits, and the limits of calls and files. Each equation holds by computing both sides.
 use Rattle.std.specs.Prelude.{◌≡◌, ℕ, zero, suc, true, false, List, [], ◌∷◌, map, nat_le, refl}
 use Rattle.core_terms.specs.Types.{UnitTy, IntTy, BoolTy, PairTy, AuthTy, NamedTy, Table}
 use Rattle.core_terms.specs.Terms.{Expression, UnitE, BoolE, LocalE, PairE, FstE, SndE, NotE, LenE, AuthE, UnauthE, ConE, ArithE, CompareE, TextCompareE, CatE, LetE, IfE, MatchE, CallE, NoE, AndE, NoArm, AndArm, Function, Inner}
 use Rattle.core_terms.specs.declared.term.Arith.TheVariants.{Add}
 use Rattle.core_terms.specs.declared.term.Compare.TheVariants.{Lt}
 use Rattle.core_terms.specs.declared.term.TextCompare.TheVariants.{Lt as TLt}
+use Rattle.core_terms.specs.Limits.{most_file_bytes, most_fuel, most_program_bytes}
 use Rattle.core_terms.specs.ProgramLimits.{longest_name, most_constructors, most_expressions, most_fields, most_functions, most_levels, most_locals, most_parameters, most_types}
 use Rattle.core_terms.specs.ProgramSizes.{expressions_in, expressions_in_all, levels_of, levels_of_type, locals_in}
 
@@ -58,6 +59,9 @@ limits_of_programs = (refl, refl, refl, refl, refl)
 
 pub limits_of_bodies : (most_locals ≡ 255) × (most_levels ≡ 100) × (most_expressions ≡ 262144) × (longest_name ≡ 64)
 limits_of_bodies = (refl, refl, refl, refl)
+
+pub limits_of_calls_and_files : (most_fuel ≡ 1000000000000) × (most_file_bytes ≡ 67108864) × (most_program_bytes ≡ 262144)
+limits_of_calls_and_files = (refl, refl, refl)
 
 -- Each form that has parts, with these two.
 abbrev pub forms : Expression → Expression → List Expression

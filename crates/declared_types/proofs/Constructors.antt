@@ -1,14 +1,12 @@
 -- Lemmas of the constructors of a type, one by one.
-use Rattle.std.proofs.Common.{◌≡◌, ℕ, ◌<◌, ◌≤◌, Bool, true, false, not, List, nat_lt, Result, Ok, Err, refl, ap, ◌∙◌, le-ltb, lt-ltb}
+use Rattle.std.proofs.Common.{◌≡◌, ℕ, ◌<◌, ◌≤◌, Bool, true, false, not, List, nat_lt, Result, Ok, Err, ap, ◌∙◌, le-ltb, lt-ltb}
 use Rattle.auth_syntax.specs.Syntax.{ConstructorDeclaration}
 use Rattle.declared_types.specs.Checking.{Checking, Sound, FaultAt, then_checked, unless_fault, is_among}
 use Rattle.declared_types.specs.Declarations.{checked_constructor, checked_fields, most_constructors}
 use Rattle.declared_types.specs.Findings.{Finds, TypeFault}
 use Rattle.core_terms.specs.declared.fault.Fault.TheVariants.{At, NoMemory}
-use Rattle.declared_types.specs.declared.fault.TypeKind.{TypeKind}
 use Rattle.declared_types.specs.declared.fault.TypeKind.TheVariants.{Twice, Limit}
 use Rattle.declared_types.specs.declared.fault.Limited.TheVariants.{Constructors}
-use Rattle.lexemes.specs.declared.place.Place.{Place}
 
 module _ {A : Type 0} (before : ℕ) (names : List (List ℕ)) (constructor : ConstructorDeclaration) (rest : Checking A) where
   -- what is found of a constructor whose name is new or not, of which so many are few enough or not, and whose fields are checked
@@ -39,28 +37,6 @@ module _ {A : Type 0} (before : ℕ) (names : List (List ℕ)) (constructor : Co
 module _ {A : Type 0} (before : ℕ) (names : List (List ℕ)) (constructor : ConstructorDeclaration) (ns : List (List ℕ)) (rest : Checking A) where
   abbrev alone : Bool → Bool → Checking (Unit {0}) → Checking (List (List ℕ))
   alone = of_parts before names constructor (Sound ns)
-
-  pub constructor_sound : (ms : List (List ℕ)) → checked_constructor before names constructor (Sound ns) ≡ Sound ms
-      → (checked_constructor before names constructor rest ≡ rest) × (ns ≡ ms)
-  constructor_sound ms = by (is_among constructor.name.name names) (nat_lt before most_constructors) (checked_fields 0 constructor.fields)
-    where
-      by : (again few : Bool) (fields : Checking (Unit {0})) → alone again few fields ≡ Sound ms
-          → (of_parts before names constructor rest again few fields ≡ rest) × (ns ≡ ms)
-      by true few fields is = absurd (cc)
-      by false false fields is = absurd (cc)
-      by false true (FaultAt kind at) is = absurd (cc)
-      by false true (Sound u) is = (refl, cc)
-
-  pub constructor_fault : (kind : TypeKind) (at : Place) → checked_constructor before names constructor (Sound ns) ≡ FaultAt
-      kind at → checked_constructor before names constructor rest ≡ FaultAt kind at
-  constructor_fault kind at = by (is_among constructor.name.name names) (nat_lt before most_constructors) (checked_fields 0 constructor.fields)
-    where
-      by : (again few : Bool) (fields : Checking (Unit {0})) → alone again few fields ≡ FaultAt kind at → of_parts before names constructor rest again
-          few fields ≡ FaultAt kind at
-      by true few fields is = cc
-      by false false fields is = cc
-      by false true (FaultAt k a) is = cc
-      by false true (Sound u) is = absurd (cc)
 
 -- what is answered where one part is left to be found, whose answer is that of the whole
 pub finds_then : {B : Type 0} (view : B) (found : Checking (Unit {0})) (whole : Checking B) (r : Result (Unit {0}) TypeFault)

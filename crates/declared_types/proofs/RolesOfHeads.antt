@@ -1,15 +1,12 @@
 -- Lemmas of the third pass: the roles of a scope's functions.
-use Rattle.std.proofs.Common.{◌≡◌, ◌≢◌, ℕ, zero, suc, ◌+◌, ◌<◌, Bool, true, false, ◌&&◌, List, [], ◌∷◌, length, map, drop, slice_get, slice_index_or, Some, ◌-◌, Result, Ok, Err, refl, sym, ap, ◌∙◌, subst, arith, add-one, drop-cons}
+use Rattle.std.proofs.Common.{◌≡◌, ◌≢◌, ℕ, zero, suc, ◌+◌, ◌<◌, true, false, List, [], ◌∷◌, length, map, drop, slice_get, slice_index_or, Some, ◌-◌, Result, Ok, Err, refl, sym, ap, ◌∙◌, subst, arith, add-one, drop-cons}
 use Rattle.std.specs.Prelude.{IsTrue}
 use Rattle.std.proofs.lemmas.Bool.{false≢true}
 use Rattle.std.proofs.lemmas.List.{length-map}
-use Rattle.core_terms.specs.Types.{Ty, Table, same_type}
+use Rattle.core_terms.specs.Types.{Ty, Table}
 use Rattle.core_terms.specs.declared.format.Format.{Format}
-use Rattle.core_terms.specs.Roles.{has_auth}
-use Rattle.core_terms.specs.ProgramTrees.{types_at}
 use Rattle.core_terms.specs.TypeTables.{type_at}
-use Rattle.core_terms.specs.declared.types.TyId.{TyId}
-use Rattle.auth_syntax.specs.Syntax.{FunctionSyntax, InitSyntax, ParameterSyntax, QuerySyntax, UpdateSyntax, place_of_type}
+use Rattle.auth_syntax.specs.Syntax.{FunctionSyntax, ParameterSyntax, UpdateSyntax, place_of_type}
 use Rattle.auth_syntax.specs.Trees as written
 use Rattle.lexemes.specs.declared.place.Place.{Place}
 use Rattle.auth_syntax.specs.declared.tree.Parameter.{Parameter}
@@ -17,8 +14,8 @@ use Rattle.declared_types.specs.Checking.{Checking, FaultAt, then_checked}
 use Rattle.declared_types.specs.DeclaredPrograms.{signature_of}
 use Rattle.declared_types.specs.Signatures.{Signature}
 use Rattle.declared_types.specs.Findings.{Finds, TypeFault}
-use Rattle.declared_types.specs.RoleHeads.{FindsRole, judged_role, last_place}
-use Rattle.declared_types.specs.RoleRules.{checked_role, checked_roles, is_new_state}
+use Rattle.declared_types.specs.RoleHeads.{FindsRole, last_place}
+use Rattle.declared_types.specs.RoleRules.{checked_role, checked_roles}
 use Rattle.declared_types.specs.Scopes.{AreHeadsOf, functions_meant, signature_meant}
 use Rattle.declared_types.specs.WrittenTypes.{type_meant}
 use Rattle.core_terms.specs.declared.fault.Fault.TheVariants.{At, NoMemory}
@@ -76,83 +73,6 @@ module _ (types : List Ty) (table : Table) (state : Ty) (scope : Scope) where
           by NoMemory h = tt
           by (At kind at) h = here format names are ∙ ap (λ (found : Checking (Unit {0})). then_checked found (λ _. rest_of format names)) h
 
--- a role whose argument has this type, and the rest of whose shape fits or doesn't
-abbrev Judged : FunctionSyntax → Bool → Bool → List ParameterSyntax → Result (Unit {0}) TypeFault → Type 0
-Judged F fits mark ps answer = Finds (λ _. tt) (judged_role F.name.at fits mark ps) answer
-
-module _ (types : List Ty) (table : Table) (state : Ty) (head : Head) (argument : TyId) (fits mark : Bool) (answer : Result (Unit {0}) TypeFault)
-    (marked : mark ≡ has_auth table (type_at types argument))
-    (judged : Judged (function_in head) fits mark (function_in head).parameters answer) where
-  pub init_found : head.parameters.items ≡ argument ∷ [] → fits ≡ same_type state (type_at types head.result)
-      → FindsRole types table state InitSyntax head answer
-  init_found is shape format names same = by (function_in head).parameters parameters judged
-    where
-      result : type_at types head.result ≡ type_meant format names (function_in head).result_type
-      result = ap (λ (s : Signature). s.result) same
-
-      parameters : type_at types argument ∷ [] ≡ map (λ (p : ParameterSyntax). type_meant format names p.of_type) (function_in head).parameters
-      parameters = ap (types_at types) (sym is) ∙ ap (λ (s : Signature). s.parameters) same
-
-      by : (ps : List ParameterSyntax) → type_at types argument ∷ [] ≡ map (λ (p : ParameterSyntax). type_meant format names p.of_type) ps
-          → Judged (function_in head) fits mark ps answer
-          → Finds (λ _. tt) (checked_role format names table state (function_in head) InitSyntax ps) answer
-      by [] these h = absurd (cc)
-      by (p ∷ q ∷ ps) these h = absurd (cc)
-      by (p ∷ []) these h =
-          let one : type_at types argument ≡ type_meant format names p.of_type = cc in
-          let fit : fits ≡ same_type state (type_meant format names (function_in head).result_type) = shape ∙ ap (same_type state) result in
-          let auth : mark ≡ has_auth table (type_meant format names p.of_type) = marked ∙ ap (has_auth table) one in
-          subst (λ (m : Bool). Judged (function_in head) (same_type state (type_meant format names (function_in head).result_type)) m (p ∷ []) answer) auth
-          (subst (λ (f : Bool). Judged (function_in head) f mark (p ∷ []) answer) fit h)
-
-  -- a role with a state before its argument
-  module _ (first : TyId) (is : head.parameters.items ≡ first ∷ argument ∷ []) where
-    parameters_of_two : (format : Format) (names : List (List ℕ)) → signature_meant types head ≡ signature_of format names (function_in head)
-        → type_at types first ∷ type_at types argument ∷ [] ≡ map (λ (p : ParameterSyntax). type_meant format names p.of_type) (function_in head).parameters
-    parameters_of_two format names same = ap (types_at types) (sym is) ∙ ap (λ (s : Signature). s.parameters) same
-
-    pub query_found : fits ≡ same_type state (type_at types first) → FindsRole types table state QuerySyntax head answer
-    query_found shape format names same = by (function_in head).parameters (parameters_of_two format names same) judged
-      where
-        by : (ps : List ParameterSyntax) → type_at types first ∷ type_at types
-            argument ∷ [] ≡ map (λ (p : ParameterSyntax). type_meant format names p.of_type) ps → Judged (function_in head) fits mark ps answer
-            → Finds (λ _. tt) (checked_role format names table state (function_in head) QuerySyntax ps) answer
-        by [] these h = absurd (cc)
-        by (p ∷ []) these h = absurd (cc)
-        by (p ∷ q ∷ r ∷ ps) these h = absurd (cc)
-        by (p ∷ q ∷ []) these h =
-            let one : type_at types first ≡ type_meant format names p.of_type = cc in
-            let two : type_at types argument ≡ type_meant format names q.of_type = cc in
-            let fit : fits ≡ same_type state (type_meant format names p.of_type) = shape ∙ ap (same_type state) one in
-            let auth : mark ≡ has_auth table (type_meant format names q.of_type) = marked ∙ ap (has_auth table) two in
-            subst (λ (m : Bool). Judged (function_in head) (same_type state (type_meant format names p.of_type)) m (p ∷ q ∷ []) answer) auth
-            (subst (λ (f : Bool). Judged (function_in head) f mark (p ∷ q ∷ []) answer) fit h)
-
-    pub update_found : fits ≡ same_type state (type_at types first) && is_new_state state (type_at types head.result)
-        → FindsRole types table state UpdateSyntax head answer
-    update_found shape format names same = by (function_in head).parameters (parameters_of_two format names same) judged
-      where
-        result : type_at types head.result ≡ type_meant format names (function_in head).result_type
-        result = ap (λ (s : Signature). s.result) same
-
-        by : (ps : List ParameterSyntax) → type_at types first ∷ type_at types
-            argument ∷ [] ≡ map (λ (p : ParameterSyntax). type_meant format names p.of_type) ps → Judged (function_in head) fits mark ps answer
-            → Finds (λ _. tt) (checked_role format names table state (function_in head) UpdateSyntax ps) answer
-        by [] these h = absurd (cc)
-        by (p ∷ []) these h = absurd (cc)
-        by (p ∷ q ∷ r ∷ ps) these h = absurd (cc)
-        by (p ∷ q ∷ []) these h =
-            let one : type_at types first ≡ type_meant format names p.of_type = cc in
-            let two : type_at types argument ≡ type_meant format names q.of_type = cc in
-            let new : Ty → Bool = λ t. is_new_state state t in
-            let fit : fits ≡ same_type state (type_meant format names p.of_type) && new (type_meant format names (function_in head).result_type) =
-            shape ∙ ap (λ (t : Ty). same_type state t && new (type_at types head.result)) one
-            ∙ ap (λ (t : Ty). same_type state (type_meant format names p.of_type) && new t) result in
-            let auth : mark ≡ has_auth table (type_meant format names q.of_type) = marked ∙ ap (has_auth table) two in
-            subst (λ (m : Bool). Judged (function_in head) (same_type state (type_meant format names p.of_type) && new
-            (type_meant format names (function_in head).result_type)) m (p ∷ q ∷ []) answer) auth
-            (subst (λ (f : Bool). Judged (function_in head) f mark (p ∷ q ∷ []) answer) fit h)
-
 -- as many numbers as parameters
 module _ (types : List Ty) (table : Table) (state : Ty) (head : Head) where
   as_many : (format : Format) (names : List (List ℕ)) → signature_meant types head ≡ signature_of format names (function_in head)
@@ -162,25 +82,6 @@ module _ (types : List Ty) (table : Table) (state : Ty) (head : Head) where
       ∙ length-map (function_in head).parameters (λ (p : ParameterSyntax). type_meant format names p.of_type)
 
   -- a role of another number of parameters
-  pub init_misshaped : length head.parameters.items ≢ 1 → FindsRole types table state InitSyntax head (Err (At RoleShape head.function.now.name.at))
-  init_misshaped other format names same = by (function_in head).parameters (λ one. other (as_many format names same ∙ one))
-    where
-      by : (ps : List ParameterSyntax) → length ps ≢ 1 → checked_role format names table state (function_in head) InitSyntax ps ≡ FaultAt RoleShape
-          head.function.now.name.at
-      by [] other = refl
-      by (p ∷ []) other = absurd (other refl)
-      by (p ∷ q ∷ ps) other = refl
-
-  pub query_misshaped : length head.parameters.items ≢ 2 → FindsRole types table state QuerySyntax head (Err (At RoleShape head.function.now.name.at))
-  query_misshaped other format names same = by (function_in head).parameters (λ two. other (as_many format names same ∙ two))
-    where
-      by : (ps : List ParameterSyntax) → length ps ≢ 2 → checked_role format names table state (function_in head) QuerySyntax ps ≡ FaultAt RoleShape
-          head.function.now.name.at
-      by [] other = refl
-      by (p ∷ []) other = refl
-      by (p ∷ q ∷ []) other = absurd (other refl)
-      by (p ∷ q ∷ r ∷ ps) other = refl
-
   pub update_misshaped : length head.parameters.items ≢ 2 → FindsRole types table state UpdateSyntax head
       (Err (At RoleShape head.function.now.name.at))
   update_misshaped other format names same = by (function_in head).parameters (λ two. other (as_many format names same ∙ two))

@@ -66,12 +66,6 @@ function_found types scope name found is =
     by None = refl
     by (Some i) = ap (λ (k : ℕ). Some (record { number = k; value = slice_index_or (signatures_meant types scope) i no_signature })) (zero-add i)
 
--- a name of the keys is the name of a head
-pub heads_length : (scope : Scope) → length scope.heads.items ≡ length scope.function_names.keys
-heads_length scope =
-    sym (length-map scope.heads.items (λ (h : Head). h.function.now.name.name)) ∙ ap length (sym scope.functions_named)
-    ∙ length-map scope.function_names.keys (λ k. k.now)
-
 -- what a head of a number is called with and gives
 pub head_signature : (types : List Ty) (scope : Scope) (id : FunctionId) (head : Head) → slice_get scope.heads.items id.0 ≡ Some head
     → (function_meant types scope id).value ≡ signature_meant types head

@@ -38,12 +38,6 @@ number_at types (id ∷ ids) [] i d h inside = absurd (cc)
 number_at types (id ∷ ids) (t ∷ ts) zero d h inside = cc
 number_at types (id ∷ ids) (t ∷ ts) (suc i) d h inside = let others : AreNumbers types ids ts = cc in number_at types ids ts i d others (omega arith)
 
-pub numbers_length : (types : List Ty) (ids : List TyId) (ts : List Ty) → AreNumbers types ids ts → length ids ≡ length ts
-numbers_length types [] [] h = refl
-numbers_length types [] (t ∷ ts) h = absurd (cc)
-numbers_length types (id ∷ ids) [] h = absurd (cc)
-numbers_length types (id ∷ ids) (t ∷ ts) h = let others : AreNumbers types ids ts = cc in ap suc (numbers_length types ids ts others)
-
 -- the types with these numbers
 pub numbers_types : (types : List Ty) (ids : List TyId) (ts : List Ty) → AreNumbers types ids ts → map (type_at types) ids ≡ ts
 numbers_types types [] [] h = refl

@@ -2,8 +2,8 @@
 use Rattle.std.proofs.Common.{◌≡◌, ℕ, List, sym, ◌∙◌}
 use Rattle.core_terms.specs.Terms.{Program}
 use Rattle.printed_types.specs.Laws.{EqualTextsAreEqualTables}
-use Rattle.file_commands.specs.SoundPrograms.{IsOfDeclared}
-use Rattle.file_commands.proofs.PassedTrees.{passes, text_of_program}
+use Rattle.command_parts.specs.SoundPrograms.{IsOfDeclared}
+use Rattle.command_parts.proofs.PassedTrees.{passes, text_of_program}
 
 pub same_types : EqualTextsAreEqualTables → (P Q : Program) (declared : List ℕ) → IsOfDeclared declared P → IsOfDeclared declared Q → P.types ≡ Q.types
 same_types law P Q declared (text, is, declares) (other_text, other_is, other_declares) =

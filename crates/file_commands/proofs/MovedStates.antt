@@ -2,6 +2,7 @@
 use Rattle.std.proofs.Common.{◌≡◌, ℕ, ◌≤◌, Bool, true, false, ◌&&◌, List, Option, Some, None, Result, Ok, Err, if◌then◌else◌, not, refl, sym, ap, ◌∙◌, subst, arith}
 use Rattle.std.specs.Prelude.{bytes_eq, nat_le, length}
 use Rattle.std.proofs.lemmas.Slice.Eq.{bytes_eq-Decides}
+use Rattle.core_terms.specs.Limits.{most_file_bytes}
 use Rattle.core_terms.specs.ProgramFormats.{arrays_of, limit_of}
 use Rattle.core_terms.specs.ProgramTypes.{text_of}
 use Rattle.core_terms.specs.Programs.{meaning}
@@ -20,23 +21,23 @@ use Rattle.printed_lines.specs.declared.refusal.InputFault.TheVariants.{TooLong}
 use Rattle.printed_lines.specs.declared.refusal.MigrationKind.TheVariants as migration
 use Rattle.printed_lines.specs.declared.refusal.Refusal.TheVariants as refusal
 use Rattle.printed_types.specs.Laws.{EqualTextsAreEqualTables}
-use Rattle.file_commands.specs.Answer.{migrated_answer, migration_fault, moved_answer, with_migration, with_no_fault}
-use Rattle.file_commands.specs.FileInputs.{image_kind, image_read, max_file, with_declared_file, with_image, with_image_bytes, with_image_file, with_root}
-use Rattle.file_commands.specs.AnswerForms.{Answer}
-use Rattle.file_commands.specs.RefusedAnswers.{input_refused}
-use Rattle.file_commands.specs.FueledRoles.{DeclaredProgram, DigestedProgram}
-use Rattle.file_commands.specs.Halting.{StepGivesFor, InHand}
+use Rattle.command_parts.specs.Answer.{migrated_answer, migration_fault, moved_answer, with_migration, with_no_fault}
+use Rattle.command_parts.specs.FileInputs.{image_kind, image_read, with_declared_file, with_image, with_image_bytes, with_image_file, with_root}
+use Rattle.command_parts.specs.AnswerForms.{Answer}
+use Rattle.command_parts.specs.RefusedAnswers.{input_refused}
+use Rattle.command_parts.specs.FueledRoles.{DeclaredProgram, DigestedProgram}
+use Rattle.command_parts.specs.Halting.{StepGivesFor, InHand}
 use Rattle.file_commands.specs.MovedStates.{KeepsStates}
-use Rattle.file_commands.specs.Reaching.{without}
-use Rattle.file_commands.specs.ReadPrograms.{declared_of, digested_of, named_of}
-use Rattle.file_commands.specs.SoundPrograms.{IsOfDeclared}
-use Rattle.file_commands.specs.Storing.{FindsOutput}
-use Rattle.file_commands.specs.declared.report.Halt.{Halt}
-use Rattle.file_commands.specs.declared.report.Halt.TheVariants.{Usage, Refused, ReadFault, NoMemory}
-use Rattle.file_commands.specs.declared.report.Output.{Output}
+use Rattle.command_parts.specs.Reaching.{without}
+use Rattle.command_parts.specs.ReadPrograms.{declared_of, digested_of, named_of}
+use Rattle.command_parts.specs.SoundPrograms.{IsOfDeclared}
+use Rattle.command_parts.specs.Storing.{FindsOutput}
+use Rattle.command_parts.specs.declared.report.Halt.{Halt}
+use Rattle.command_parts.specs.declared.report.Halt.TheVariants.{Usage, Refused, ReadFault, NoMemory}
+use Rattle.command_parts.specs.declared.report.Output.{Output}
 use Rattle.file_commands.proofs.EqualTables.{same_types}
-use Rattle.file_commands.proofs.Reached.{behind, is_missing}
-use Rattle.file_commands.proofs.Steps.{image_goes}
+use Rattle.command_parts.proofs.Reached.{behind, is_missing}
+use Rattle.command_parts.proofs.Steps.{image_goes}
 
 -- ---- where no fault is found, the other keeps the states of the one
 
@@ -117,7 +118,7 @@ module _ (p : DigestedProgram) (go : Value → Option Answer) where
   -- bytes that are judged and then read as an image are read
   pub bytes_then_state : (file : Option (List ℕ)) → with_image_file p file go ≡ with_image_bytes p file (λ bytes. with_image p bytes go)
   bytes_then_state None = refl
-  bytes_then_state (Some bytes) = within_limit (nat_le (length bytes) max_file) bytes
+  bytes_then_state (Some bytes) = within_limit (nat_le (length bytes) most_file_bytes) bytes
 
 -- bytes that are an image are loaded, unless memory is wanting
 pub not_loaded : {T : Type 0} (q : DigestedProgram) (bytes : List ℕ) (v : Value) (Stands : T → Value → Type 0) (name : List ℕ) (answer : Option Answer) (halt : Halt) (result : Result Output Halt)

@@ -8,11 +8,11 @@ use Rattle.object_meaning.specs.ObjectBodies.{constructor_names, listed_at, name
 use Rattle.object_meaning.specs.Objects.{ListedConstructor, ListedType, ListedUnit, ListedBool, ListedInt, ListedText, ListedPair, ListedNamed, ListedAuth}
 use Rattle.auth_syntax.specs.Parsing.{parsed}
 use Rattle.auth_types.proofs.SoundPrograms.{scope_is_of_program}
-use Rattle.file_commands.specs.FilePrograms.{constructor_names_of_file, constructor_names_of_object, constructors_of_acceptance}
+use Rattle.command_parts.specs.FilePrograms.{constructor_names_of_file, constructor_names_of_object, constructors_of_acceptance}
 use Rattle.file_commands.specs.TextLaws.{ConstructorsAreNamed}
-use Rattle.file_commands.specs.TextPrograms.{IsProgram, constructor_names_of_text, constructors_of_parsed, program_of_text}
-use Rattle.file_commands.proofs.FileReadings.{IsOfObject, IsOfText, names_as_object, names_as_text, object_or_text}
-use Rattle.file_commands.proofs.PassedTrees.{text_of_program}
+use Rattle.command_parts.specs.TextPrograms.{IsProgram, constructor_names_of_text, constructors_of_parsed, program_of_text}
+use Rattle.command_parts.proofs.FileReadings.{IsOfObject, IsOfText, names_as_object, names_as_text, object_or_text}
+use Rattle.command_parts.proofs.PassedTrees.{text_of_program}
 
 -- the length of a list that is found
 length_found : {A : Type 0} (xs : List (List A)) (n : ℕ) → length (unwrap_or (slice_get xs n) []) ≡ unwrap_or (slice_get (map length xs) n) 0

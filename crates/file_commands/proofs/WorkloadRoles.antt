@@ -5,10 +5,10 @@ use Rattle.core_terms.specs.RoleTypes.{IsRole, ReadsState}
 use Rattle.core_terms.specs.Terms.{Kind, Inner, Init, Query, Update, Program}
 use Rattle.core_terms.specs.Types.{Ty, UnitTy, BoolTy, IntTy, TextTy, PairTy, NamedTy, AuthTy, VecTy}
 use Rattle.printed_lines.specs.declared.refusal.InputFault.TheVariants.{RoleKind}
-use Rattle.file_commands.specs.WorkloadAnswers.{is_entry, is_get, is_key, is_put, with_shape}
-use Rattle.file_commands.specs.AnswerForms.{Answer}
-use Rattle.file_commands.specs.RefusedAnswers.{input_refused}
-use Rattle.file_commands.proofs.RoleShapes.{kind_is, reader_takes}
+use Rattle.command_parts.specs.WorkloadAnswers.{is_entry, is_get, is_key, is_put, with_shape}
+use Rattle.command_parts.specs.AnswerForms.{Answer}
+use Rattle.command_parts.specs.RefusedAnswers.{input_refused}
+use Rattle.command_parts.proofs.RoleShapes.{kind_is, reader_takes}
 
 module _ (test : Kind → Ty → Bool) (P : Program) (f : ℕ) (kind : Kind) (argument answer : Ty) (role : IsRole P f kind argument answer) (reads : ReadsState kind)
     (go : ℕ → Option Answer) where

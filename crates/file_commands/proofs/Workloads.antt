@@ -8,6 +8,7 @@ use Rattle.std.proofs.lemmas.Bool.{leb-true}
 use Rattle.sha2.specs.Sha256.{sha256}
 use Rattle.ads_library.specs.Texts.{library_text}
 use Rattle.ads_library.specs.declared.texts.TheConstants.{BST, MERKLE, REDBLACK, SKIPLIST}
+use Rattle.core_terms.specs.Limits.{most_program_bytes}
 use Rattle.core_terms.specs.Programs.{meaning}
 use Rattle.core_terms.specs.Values.{Value}
 use Rattle.core_terms.specs.declared.program.Program.{Program}
@@ -20,33 +21,32 @@ use Rattle.value_store.specs.Stores.{nodes_in, store_lent}
 use Rattle.workloads.specs.Workloads.{after_rounds, no_calls}
 use Rattle.workloads.specs.declared.tally.Tally.{Tally}
 use Rattle.workloads.specs.declared.workload.Workload.{Workload}
-use Rattle.file_commands.specs.Answer.{max_program}
-use Rattle.file_commands.specs.WorkloadAnswers.{WorkloadNumbers, first_argument, first_role, sums_answer, with_first, with_outcome, workload_answer}
-use Rattle.file_commands.specs.OutcomeAnswers.{outcome_told, projected_line}
-use Rattle.file_commands.specs.AnswerForms.{Answer, says}
-use Rattle.file_commands.specs.RoleInputs.{with_ended_init}
-use Rattle.file_commands.specs.FueledRoles.{FueledRole, NamedProgram}
-use Rattle.file_commands.specs.Halting.{FindsLines, InHand, TellsLines, ending_status}
-use Rattle.file_commands.specs.RoleCalls.{EndedRole, kind_called, state_made}
-use Rattle.file_commands.specs.ReadPrograms.{named_of}
-use Rattle.file_commands.specs.RolesCalled.{prover_nodes}
-use Rattle.file_commands.specs.StoredStates.{IsStoredState}
-use Rattle.file_commands.specs.declared.report.Ending.TheVariants as ending
-use Rattle.file_commands.specs.declared.report.Report.{Report}
-use Rattle.file_commands.specs.declared.status.Status.{Status}
-use Rattle.file_commands.proofs.Ends.{one_line}
-use Rattle.file_commands.proofs.LineSteps.{found_as}
+use Rattle.command_parts.specs.WorkloadAnswers.{WorkloadNumbers, first_argument, first_role, sums_answer, with_first, with_outcome, workload_answer}
+use Rattle.command_parts.specs.OutcomeAnswers.{outcome_told, projected_line}
+use Rattle.command_parts.specs.AnswerForms.{Answer, says}
+use Rattle.command_parts.specs.RoleInputs.{with_ended_init}
+use Rattle.command_parts.specs.FueledRoles.{FueledRole, NamedProgram}
+use Rattle.command_parts.specs.Halting.{FindsLines, InHand, TellsLines, ending_status}
+use Rattle.command_parts.specs.RoleCalls.{EndedRole, kind_called, state_made}
+use Rattle.command_parts.specs.ReadPrograms.{named_of}
+use Rattle.command_parts.specs.RolesCalled.{prover_nodes}
+use Rattle.command_parts.specs.StoredStates.{IsStoredState}
+use Rattle.command_parts.specs.declared.report.Ending.TheVariants as ending
+use Rattle.command_parts.specs.declared.report.Report.{Report}
+use Rattle.command_parts.specs.declared.status.Status.{Status}
+use Rattle.command_parts.proofs.Ends.{one_line}
+use Rattle.command_parts.proofs.LineSteps.{found_as}
 
 -- each text of the library is within the limit of a program's text
-pub short_text : (name text : List ℕ) → library_text name ≡ Some text → length text ≤ max_program
+pub short_text : (name text : List ℕ) → library_text name ≡ Some text → length text ≤ most_program_bytes
 unfolding library_text
 short_text name text is = by (bytes_eq name (codes "bst")) (bytes_eq name (codes "merkle")) (bytes_eq name (codes "redblack")) (bytes_eq name (codes "skiplist")) is
   where
-    one : (known : List ℕ) → nat_le (length known) max_program ≡ true → known ≡ text → length text ≤ max_program
-    one known short same = subst (λ text. length text ≤ max_program) same (leb-true (length known) max_program short)
+    one : (known : List ℕ) → nat_le (length known) most_program_bytes ≡ true → known ≡ text → length text ≤ most_program_bytes
+    one known short same = subst (λ text. length text ≤ most_program_bytes) same (leb-true (length known) most_program_bytes short)
 
     by : (a b c d : Bool) → cond a (Some BST.now) (cond b (Some MERKLE.now) (cond c (Some REDBLACK.now) (cond d (Some SKIPLIST.now) None))) ≡ Some text
-        → length text ≤ max_program
+        → length text ≤ most_program_bytes
     by true b c d is = one BST.now refl (cc)
     by false true c d is = one MERKLE.now refl (cc)
     by false false true d is = one REDBLACK.now refl (cc)

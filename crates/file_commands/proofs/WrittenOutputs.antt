@@ -14,20 +14,20 @@ use Rattle.object_writer.specs.declared.fault.WriteFault.{WriteFault}
 use Rattle.object_writer.specs.declared.fault.WriteFault.TheVariants as write_fault
 use Rattle.printed_lines.specs.declared.refusal.InputFault.TheVariants.{ObjectFormat}
 use Rattle.sha2.specs.Sha256.{sha256}
-use Rattle.file_commands.specs.Answer.{object_answer, object_written, stored_object, with_listed}
-use Rattle.file_commands.specs.FileInputs.{with_program, with_text}
-use Rattle.file_commands.specs.AnswerForms.{Answer}
-use Rattle.file_commands.specs.RefusedAnswers.{input_refused}
-use Rattle.file_commands.specs.FilePrograms.{begins_as_object}
-use Rattle.file_commands.specs.FueledRoles.{ListedProgram}
-use Rattle.file_commands.specs.Halting.{InHand, ending_status, of_write_fault}
-use Rattle.file_commands.specs.ReadPrograms.{listed_of}
-use Rattle.file_commands.specs.Storing.{FindsOutput}
-use Rattle.file_commands.specs.TextPrograms.{FileProgram, IsProgram, constructors_of_text, program_of_text}
-use Rattle.file_commands.specs.declared.report.Ending.TheVariants as ending
-use Rattle.file_commands.specs.declared.report.Halt.{Halt}
-use Rattle.file_commands.specs.declared.report.Output.{Output}
-use Rattle.file_commands.specs.declared.report.Report.{Report}
+use Rattle.command_parts.specs.Answer.{object_answer, object_written, stored_object, with_listed}
+use Rattle.command_parts.specs.FileInputs.{with_program, with_text}
+use Rattle.command_parts.specs.AnswerForms.{Answer}
+use Rattle.command_parts.specs.RefusedAnswers.{input_refused}
+use Rattle.command_parts.specs.FilePrograms.{begins_as_object}
+use Rattle.command_parts.specs.FueledRoles.{ListedProgram}
+use Rattle.command_parts.specs.Halting.{InHand, ending_status, of_write_fault}
+use Rattle.command_parts.specs.ReadPrograms.{listed_of}
+use Rattle.command_parts.specs.Storing.{FindsOutput}
+use Rattle.command_parts.specs.TextPrograms.{FileProgram, IsProgram, constructors_of_text, program_of_text}
+use Rattle.command_parts.specs.declared.report.Ending.TheVariants as ending
+use Rattle.command_parts.specs.declared.report.Halt.{Halt}
+use Rattle.command_parts.specs.declared.report.Output.{Output}
+use Rattle.command_parts.specs.declared.report.Report.{Report}
 
 -- bytes that begin as an object are refused, and others read as a text
 module _ (bytes : List ℕ) (go : ListedProgram → Option Answer) where

@@ -4,7 +4,7 @@ use Rattle.core_terms.specs.RoleTypes.{IsRole}
 use Rattle.core_terms.specs.Terms.{Program, Query, Update}
 use Rattle.core_terms.specs.Types.{IntTy, PairTy, Ty}
 use Rattle.workloads.specs.declared.workload.Workload.{Workload}
-use Rattle.file_commands.specs.WorkloadAnswers.{WorkloadNumbers}
+use Rattle.command_parts.specs.WorkloadAnswers.{WorkloadNumbers}
 use Rattle.file_commands.specs.declared.gen_workload.Numbers.{Numbers}
 
 -- the numbers of the definitions

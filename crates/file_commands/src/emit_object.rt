@@ -5,19 +5,20 @@ ghost use Rattle.command_words.specs.Commands.{texts};
 ghost use Rattle.command_words.specs.declared.command.Command.TheVariants.{Emit};
 ghost use Rattle.core_terms.specs.Programs.{meaning};
 ghost use Rattle.core_terms.specs.declared.format.Format.TheVariants.{First};
-ghost use Rattle.file_commands.specs.Answer.{answer_with, emitted_answer, object_answer, stored_object, object_written, with_listed_file};
-ghost use Rattle.file_commands.specs.Ending.{EndsAs};
-ghost use Rattle.file_commands.specs.Outsides.{outside};
-ghost use Rattle.file_commands.specs.Halting.{StepGives, HaltCause, InHand, ending_status};
-ghost use Rattle.file_commands.specs.Reaching.{FaultsAt, FaultsAtReached, ReachedAt};
-ghost use Rattle.file_commands.specs.ReadPrograms.{listed_of};
-ghost use Rattle.file_commands.specs.Statuses.{MayAnswer};
-ghost use Rattle.file_commands.specs.Storing.{FindsOutput};
+ghost use Rattle.command_parts.specs.Answer.{answer_with, emitted_answer, object_answer, stored_object, object_written, with_listed_file};
+ghost use Rattle.command_parts.specs.Ending.{EndsAs};
+ghost use Rattle.command_parts.specs.Outsides.{outside};
+ghost use Rattle.command_parts.specs.Halting.{StepGives, HaltCause, InHand, ending_status};
+ghost use Rattle.command_parts.specs.ReachingInCode.{FaultsAt, FaultsAtReached, ReachedAt};
+ghost use Rattle.command_parts.specs.ReadPrograms.{listed_of};
+ghost use Rattle.command_parts.specs.Statuses.{MayAnswer};
+ghost use Rattle.command_parts.specs.Storing.{FindsOutput};
 
-use crate::programs::{begins_as_object, load_program, read_program};
-use crate::storing::store_and_tell;
-use crate::{Ending, Halt, Output, Report, Status};
 use code_gen::Code;
+use command_parts::{
+    Ending, Halt, Output, Report, Status, begins_as_object, load_program, read_program,
+    store_and_tell,
+};
 use core_terms::{Format, Program};
 use lam_outside::{Files, Sink};
 use object_writer::write_object;

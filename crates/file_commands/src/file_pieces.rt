@@ -6,19 +6,18 @@ ghost use Rattle.command_words.specs.declared.command.Command.TheVariants.{Piece
 ghost use Rattle.core_terms.specs.Programs.{meaning};
 ghost use Rattle.core_terms.specs.Values.{Value};
 ghost use Rattle.piece_mirror.specs.Tables.{bytes_of};
-ghost use Rattle.file_commands.specs.Answer.{answer_with, filed_answer, pieces_answer, state_pieces};
-ghost use Rattle.file_commands.specs.Ending.{EndsAs};
-ghost use Rattle.file_commands.specs.Outsides.{outside};
-ghost use Rattle.file_commands.specs.Halting.{HaltCause, InHand, ending_status};
-ghost use Rattle.file_commands.specs.Reaching.{FaultsAtReached, ReachedAt};
-ghost use Rattle.file_commands.specs.Statuses.{MayAnswer};
-ghost use Rattle.file_commands.specs.StoredStates.{IsStoredState};
-ghost use Rattle.file_commands.specs.Storing.{FindsOutput};
+ghost use Rattle.command_parts.specs.Answer.{answer_with, filed_answer, pieces_answer, state_pieces};
+ghost use Rattle.command_parts.specs.Ending.{EndsAs};
+ghost use Rattle.command_parts.specs.Outsides.{outside};
+ghost use Rattle.command_parts.specs.Halting.{HaltCause, InHand, ending_status};
+ghost use Rattle.command_parts.specs.ReachingInCode.{FaultsAtReached, ReachedAt};
+ghost use Rattle.command_parts.specs.Statuses.{MayAnswer};
+ghost use Rattle.command_parts.specs.StoredStates.{IsStoredState};
+ghost use Rattle.command_parts.specs.Storing.{FindsOutput};
 
-use crate::programs::read_program_file;
-use crate::stored_states::load_image_file;
-use crate::storing::store_and_tell;
-use crate::{Ending, Halt, Output, Report, Status};
+use command_parts::{
+    Ending, Halt, Output, Report, Status, load_image_file, read_program_file, store_and_tell,
+};
 use core_terms::Program;
 use digest_layer::Sha;
 use images::Loaded;

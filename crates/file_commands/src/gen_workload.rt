@@ -6,28 +6,25 @@ ghost use Rattle.command_words.specs.Commands.{texts};
 ghost use Rattle.command_words.specs.declared.command.Command.TheVariants.{Gen};
 ghost use Rattle.core_terms.specs.Programs.{meaning};
 ghost use Rattle.core_terms.specs.Values.{Value};
-ghost use Rattle.file_commands.specs.Answer.{answer_with};
-ghost use Rattle.file_commands.specs.WorkloadAnswers.{first_argument, first_role, generated_by, sums_answer, with_numbers, with_source, workload_answer};
-ghost use Rattle.file_commands.specs.FileInputs.{with_text};
-ghost use Rattle.file_commands.specs.Ending.{EndsOnSink};
+ghost use Rattle.command_parts.specs.Answer.{answer_with};
+ghost use Rattle.command_parts.specs.WorkloadAnswers.{first_argument, first_role, generated_by, sums_answer, with_numbers, with_source, workload_answer};
+ghost use Rattle.command_parts.specs.FileInputs.{with_text};
+ghost use Rattle.command_parts.specs.EndingInCode.{EndsOnSink};
 ghost use Rattle.file_commands.specs.GeneratedCalls.{AreCalled, numbers_of};
-ghost use Rattle.file_commands.specs.Halting.{FindsLines, StepGives, InHand, TellsLines, ending_status};
-ghost use Rattle.file_commands.specs.ReadPrograms.{named_of};
-ghost use Rattle.file_commands.specs.SoundPrograms.{IsOutcome};
-ghost use Rattle.file_commands.specs.Statuses.{MayAnswer};
-ghost use Rattle.file_commands.specs.StoredStates.{IsStoredState};
+ghost use Rattle.command_parts.specs.Halting.{FindsLines, StepGives, InHand, TellsLines, ending_status};
+ghost use Rattle.command_parts.specs.ReadPrograms.{named_of};
+ghost use Rattle.command_parts.specs.SoundPrograms.{IsOutcome};
+ghost use Rattle.command_parts.specs.Statuses.{MayAnswer};
+ghost use Rattle.command_parts.specs.StoredStates.{IsStoredState};
 
-use crate::arguments::number_named;
 use crate::library_text::source_named;
-use crate::machine_calls::call_init;
-use crate::programs::read_program;
-use crate::report::tell;
-use crate::role_outcomes::{role_report, state_made};
-use crate::roles::CallWords;
 use crate::shallow_state::spell_state;
 use crate::workload_roles::workload_of;
-use crate::{Ending, Halt, Report, Status};
 use code_gen::Code;
+use command_parts::{
+    CallWords, Ending, Halt, Report, Status, call_init, number_named, read_program, role_report,
+    state_made, tell,
+};
 use core_terms::Program;
 use digest_layer::Sha;
 use images::Loaded;

@@ -9,21 +9,20 @@ ghost use Rattle.core_terms.specs.TypeTables.{type_at};
 ghost use Rattle.core_terms.specs.Types.{same_type};
 ghost use Rattle.core_terms.specs.Values.{Value};
 ghost use Rattle.images.specs.Images.{Root, image_of};
-ghost use Rattle.file_commands.specs.Answer.{answer_with, migrated_answer, migration_fault, moved_answer};
-ghost use Rattle.file_commands.specs.Ending.{EndsAs};
-ghost use Rattle.file_commands.specs.Outsides.{outside};
-ghost use Rattle.file_commands.specs.Halting.{HaltCause, InHand, ending_status};
+ghost use Rattle.command_parts.specs.Answer.{answer_with, migrated_answer, migration_fault, moved_answer};
+ghost use Rattle.command_parts.specs.Ending.{EndsAs};
+ghost use Rattle.command_parts.specs.Outsides.{outside};
+ghost use Rattle.command_parts.specs.Halting.{HaltCause, InHand, ending_status};
 ghost use Rattle.file_commands.specs.MovedStates.{KeepsStates};
-ghost use Rattle.file_commands.specs.Reaching.{FaultsAtReached, ReachedAt};
-ghost use Rattle.file_commands.specs.ReadPrograms.{declared_of, named_of};
-ghost use Rattle.file_commands.specs.Statuses.{MayAnswer};
-ghost use Rattle.file_commands.specs.Storing.{FindsOutput};
+ghost use Rattle.command_parts.specs.ReachingInCode.{FaultsAtReached, ReachedAt};
+ghost use Rattle.command_parts.specs.ReadPrograms.{declared_of, named_of};
+ghost use Rattle.command_parts.specs.Statuses.{MayAnswer};
+ghost use Rattle.command_parts.specs.Storing.{FindsOutput};
 
-use crate::programs::read_named_program;
 use crate::shallow_state::spell_state;
-use crate::stored_states::{load_image_bytes, load_state};
-use crate::storing::store_and_tell;
-use crate::{Halt, Output, Status};
+use command_parts::{
+    Halt, Output, Status, load_image_bytes, load_state, read_named_program, store_and_tell,
+};
 use core_terms::{Format, Program, TyForm, TyId};
 use images::save_image;
 use lam_outside::{Files, Sink};
@@ -79,7 +78,7 @@ fn find_moved<F: Files>(
 }
 
 /// Why no state of the one program is moved to the other, where it isn't.
-#[tactic(auto, unfolding(crate::specs::Answer::migration_fault))]
+#[tactic(auto, unfolding(command_parts::specs::Answer::migration_fault))]
 fn migration_fault(
     alloc: Global,
     from: &Program,

@@ -6,12 +6,11 @@ ghost use Rattle.core_terms.specs.RoleTypes.{IsRole};
 ghost use Rattle.core_terms.specs.Terms as tree;
 ghost use Rattle.core_terms.specs.TypeTables.{type_at};
 ghost use Rattle.core_terms.specs.Types.{IntTy, PairTy, Ty};
-ghost use Rattle.file_commands.specs.WorkloadAnswers.{is_entry, is_get, is_key, is_put, keys_of, with_shaped_role, with_workload};
+ghost use Rattle.command_parts.specs.WorkloadAnswers.{is_entry, is_get, is_key, is_put, keys_of, with_shaped_role, with_workload};
 ghost use Rattle.file_commands.specs.GeneratedCalls.{AreCalled};
-ghost use Rattle.file_commands.specs.Halting.{StepGives, InHand};
+ghost use Rattle.command_parts.specs.Halting.{StepGives, InHand};
 
-use crate::Halt;
-use crate::roles::{Callee, role_named};
+use command_parts::{Callee, Halt, role_named};
 use core_terms::{FunctionId, Program, Role, RoleKind, TyForm, TyId};
 use printed_lines::refusal::InputFault;
 use workloads::Workload;

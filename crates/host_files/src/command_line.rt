@@ -1,5 +1,5 @@
 // The words of the command line.
-use file_commands::Halt;
+use command_parts::Halt;
 use std::alloc::Global;
 use std::env;
 use std::io::ErrorKind;
@@ -18,7 +18,7 @@ pub fn words<R: Env + Alloc<A = Global>>(rt: &R) -> Result<Vec<String>, Halt> {
 #[cfg(test)]
 mod tests {
     use super::words;
-    use file_commands::Halt;
+    use command_parts::Halt;
     use std::env::FillError;
     use std::rt::Env;
     use std::test::Fail;

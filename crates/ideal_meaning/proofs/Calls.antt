@@ -30,7 +30,8 @@ pub at_start : (hash : Hash) (P : Program) (form : PieceForm) (Deep : Type 0) (b
 at_start hash P form Deep began =
     record { honest = record { pieces = refl; place = omega arith; fit = tt }; lefts = refl; ideals = tt; coherent = λ c. c }
 
-module _ (hash : Hash) (P : Program) (form : PieceForm) (is_form : IsFormOf hash P form) (format : IsFormat P.format) (typed : IsWrittenWell P) (reads_back : (t : Ty) (v : Value) → IsIdeal P.types t v → ReadsBackAs hash P form t v) (Deep : Type 0) (began : Taking) where
+module _ (hash : Hash) (P : Program) (form : PieceForm) (is_form : IsFormOf hash P form) (format : IsFormat P.format) (typed : IsWrittenWell P)
+    (reads_back : (t : Ty) (v : Value) → IsIdeal P.types t v → ReadsBackAs hash P form t v) (Deep : Type 0) (began : Taking) where
   -- calls with any bound on nesting, wherever the runs stand
   calls : (n f : ℕ) (vs : Values) (k : ℕ) (s : List Opened) (w : Taking) → AreHeld P Deep (function_at P f).parameters vs → InStep hash P form Deep began s w
       → Both hash P form format Deep began (function_at P f).result (call P ideal_mode n f vs k s) (call P (checked_mode_as hash P form) n f (projections hash P (function_at P f).parameters vs) k w)
@@ -41,8 +42,10 @@ module _ (hash : Hash) (P : Program) (form : PieceForm) (is_form : IsFormOf hash
       (function_at P f).body (function_at P f).parameters (function_at P f).result (typed_at P typed f) vs k s w h y
 
   -- a call from outside, on values within the limits
-  pub calls_agree_written : (n f : ℕ) (args : Values) (k : ℕ) → AreIdeal P.types (function_at P f).parameters args → AllFit P (function_at P f).parameters args → (Deep → AuthWithinAll P.format.limit P.types (function_at P f).parameters args)
-      → Agree hash P form Deep began (IsHeld P Deep (function_at P f).result) (projection hash P (function_at P f).result) (call P ideal_mode n f args k []) (call P (checked_mode_as hash P form) n f (projections hash P (function_at P f).parameters args) k began)
+  pub calls_agree_written : (n f : ℕ) (args : Values) (k : ℕ) → AreIdeal P.types (function_at P f).parameters args → AllFit P (function_at P f).parameters args
+      → (Deep → AuthWithinAll P.format.limit P.types (function_at P f).parameters args)
+      → Agree hash P form Deep began (IsHeld P Deep (function_at P f).result) (projection hash P (function_at P f).result) (call P ideal_mode n f args k [])
+      (call P (checked_mode_as hash P form) n f (projections hash P (function_at P f).parameters args) k began)
   calls_agree_written n f args k ideals fits deep =
       calls n f args k [] began (held_inputs P Deep (function_at P f).parameters args ideals fits deep) (at_start hash P form Deep began)
 

@@ -34,7 +34,8 @@ module _ (hash : Hash) (is_hash : IsHash hash) (P : Program) (format : IsFormat 
   never_parted : (began : Taking) (ideal : Run ⊥ (List Opened) Value) (checked : Run Cause Taking Value) → offered_pieces began.more ≡ honest_so_far hash P (state_of ideal)
       → Parted hash P (as_spelled hash P) (Unit {0}) began ideal checked → ⊥
   never_parted began ideal checked honest p =
-      by (append_cancel_left (honest_so_far hash P p.parts.before) _ _ (sym p.parts.honest.pieces ∙ honest ∙ ap (honest_so_far hash P) p.parts.seen ∙ map-append (honest_bytes hash P) p.parts.before (p.parts.x ∷ p.parts.after))) p.parts.why
+      by (append_cancel_left (honest_so_far hash P p.parts.before) _ _
+      (sym p.parts.honest.pieces ∙ honest ∙ ap (honest_so_far hash P) p.parts.seen ∙ map-append (honest_bytes hash P) p.parts.before (p.parts.x ∷ p.parts.after))) p.parts.why
     where
       by : offered_pieces p.parts.at.more ≡ honest_bytes hash P p.parts.x ∷ honest_so_far hash P p.parts.after
           → OffersOther hash P p.parts.x p.parts.at ⊎ IsRefused hash P p.parts.x p.parts.at checked → ⊥

@@ -138,7 +138,8 @@ module _ (P : Program) (Deep : Type 0) where
       record { ideal = j; within = record { size_fits = omega (arith, h.within.size_fits); depth_fits = omega (arith, h.within.depth_fits) }; deep = λ l. (h.deep l).1 }) h
 
   -- constructor values
-  pub held_con : (n tag : ℕ) (ts : List Ty) (vs : Values) → fields_at P.types n tag ≡ Some ts → AreHeld ts vs → size P.types (NamedTy n) (ConV tag vs) ≤ P.format.limit → depth P.types (NamedTy n) (ConV tag vs) ≤ depth_limit → IsHeld (NamedTy n) (ConV tag vs)
+  pub held_con : (n tag : ℕ) (ts : List Ty) (vs : Values) → fields_at P.types n tag ≡ Some ts → AreHeld ts vs → size P.types (NamedTy n) (ConV tag vs) ≤ P.format.limit
+      → depth P.types (NamedTy n) (ConV tag vs) ≤ depth_limit → IsHeld (NamedTy n) (ConV tag vs)
   held_con n tag ts vs e h s d =
       record {
         ideal = subst (λ o. OnFields o (λ ts. AreIdeal P.types ts vs)) (sym e) (ideals_of ts vs h);

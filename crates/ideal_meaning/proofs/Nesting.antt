@@ -99,10 +99,12 @@ module _ (C W : Type 0) where
         runs (TextCompareE op x y) env k w h =
             then_alike k _ _ _ _ (runs x env k w h) (λ u m w l. then_alike m _ _ _ _ (runs y env m w (omega (arith, h, l))) (λ v m w l. self m _ (le_refl m)))
         runs (CatE x y) env k w h =
-            then_alike k _ _ _ _ (runs x env k w h) (λ u m w l. then_alike m _ _ _ _ (runs y env m w (omega (arith, h, l))) (λ v m w l. self m _ (limited_low P.format.limit P.types TextTy (TextV (text_in u ++ text_in v)) m w)))
+            then_alike k _ _ _ _ (runs x env k w h) (λ u m w l. then_alike m _ _ _ _ (runs y env m w (omega (arith, h, l)))
+            (λ v m w l. self m _ (limited_low P.format.limit P.types TextTy (TextV (text_in u ++ text_in v)) m w)))
         runs (LetE a x body) env k w h = then_alike k _ _ _ _ (runs x env k w h) (λ u m w l. runs body (join env (AndV u NoV)) m w (omega (arith, h, l)))
         runs (IfE test x y) env k w h =
-            then_alike k _ _ _ _ (runs test env k w h) (λ u m w l. choose_alike (bool_in u) (run P mode c x) (run P mode c y) (run P mode d x) (run P mode d y) env m w (runs x env m w (omega (arith, h, l))) (runs y env m w (omega (arith, h, l))))
+            then_alike k _ _ _ _ (runs test env k w h) (λ u m w l. choose_alike (bool_in u) (run P mode c x) (run P mode c y) (run P mode d x) (run P mode d y) env m w
+            (runs x env m w (omega (arith, h, l))) (runs y env m w (omega (arith, h, l))))
         runs (MatchE number x arms) env k w h = then_alike k _ _ _ _ (runs x env k w h) (λ u m w l. arm_runs arms (tag_in u) (join env (fields_in u)) m w (omega (arith, h, l)))
         runs (CallE f args) env k w h = then_alike k _ _ _ _ (all_runs args env k w h) (λ vs m w l. alike f vs m w (omega (arith, h, l)))
         runs (OperateE op xs) env k w h = then_alike k _ _ _ _ (all_runs xs env k w h) (λ vs m w l. self m _ (operate_low P.format.limit P.types op vs m w))

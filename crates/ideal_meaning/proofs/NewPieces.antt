@@ -102,7 +102,8 @@ module _ (limit n : ℕ) (fits : limit < 2 ^ 32) (small : n < 2 ^ 16) where
   after_back most recent (p ∷ ps) short h = by most (place_of p (take n recent)) refl h (λ most recent h. after_back most recent ps short.1 h)
     where
       by : (most : ℕ) (o : Option ℕ) → place_of p (take n recent) ≡ o → length (frame_bytes (frame_at o p recent (λ recent. honest_frames n recent ps))) ≤ most
-          → ((most : ℕ) (recent : List (List ℕ)) → length (frame_bytes (honest_frames n recent ps)) ≤ most → after_within limit most n recent (frame_bytes (honest_frames n recent ps)) ≡ after_frames (honest_frames n recent ps) recent)
+          → ((most : ℕ) (recent : List (List ℕ)) → length (frame_bytes (honest_frames n recent ps)) ≤ most
+          → after_within limit most n recent (frame_bytes (honest_frames n recent ps)) ≡ after_frames (honest_frames n recent ps) recent)
           → after_within limit most n recent (frame_bytes (frame_at o p recent (λ recent. honest_frames n recent ps))) ≡ after_frames (frame_at o p recent (λ recent. honest_frames n recent ps)) recent
       by zero None e h ih = absurd (omega arith)
       by zero (Some k) e h ih = absurd (omega arith)

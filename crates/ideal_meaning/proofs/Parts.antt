@@ -1,4 +1,4 @@
--- The parts of the proof that code generation is right.
+-- What the proofs over code share: how values are tied, joined and pushed.
 use Rattle.std.proofs.Common.{◌≡◌, ℕ, zero, suc, ◌+◌, ◌-◌, ◌≤◌, Bool, true, false, List, [], ◌∷◌, ◌++◌, length, Option, Some, None, unwrap_or, slice_get, take, length-append, ℤ, pos, negsuc, ◌+ℤ◌, ◌-ℤ◌, ◌*ℤ◌, int_div, int_rem, nat_lt, refl, ap, ◌∙◌, subst, arith, if◌then◌else◌, le-leb}
 use Rattle.core_terms.specs.Types.{Ty, BoolTy, IntTy, TextTy, PairTy, NamedTy, Table, fields_at, OnFields}
 use Rattle.core_terms.specs.Values.{Value, BoolV, IntV, TextV, PairV, ConV, Values, NoV, AndV, int_fits, size, depth}

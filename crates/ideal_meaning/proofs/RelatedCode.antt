@@ -11,15 +11,26 @@ use Rattle.core_terms.specs.declared.term.Arith.TheVariants.{Add, Sub, Mul, Div,
 use Rattle.ideal_meaning.specs.Run.{Mode, Run, Gives, Ends, Traps, Trap, Overflow, DivZero, TooBig, TooDeep, Index, with_fuel, limited, exact, divided, arith_of, compare_of, text_compare_of, at_index, fill_of, get_of, put_of, local, repeated, replaced}
 use Rattle.ideal_meaning.specs.Execution.{Coded, Ran, Stuck, then_code, then_coded, where_some, Held, held, tie, without_last, popped, Next, on_pair, on_con, on_bool, on_int, on_text, on_items, act, exec}
 
-module _ (C W D V : Type 0) (Runs : (ℕ → W → Run C W Value) → (ℕ → V → Run D V Value) → Type 0) (Codes : (ℕ → W → Coded C W) → (ℕ → V → Coded D V) → Type 0)
+-- computations, from the fuel and the mode's state: runs, and code
+abbrev pub RunFrom : Type 0 → Type 0 → Type 0
+RunFrom C W = ℕ → W → Run C W Value
+
+abbrev pub CodedFrom : Type 0 → Type 0 → Type 0
+CodedFrom C W = ℕ → W → Coded C W
+
+-- goes on with the value that a run gives as the top operand
+abbrev run_on : {C W : Type 0} → Next C W → Ty → List Held → List Held → RunFrom C W → CodedFrom C W
+run_on next t env ops r k w = then_code (r k w) (λ v k w. next 0 env (held t v ∷ ops) k w)
+
+module _ (C W D V : Type 0) (Runs : RunFrom C W → RunFrom D V → Type 0) (Codes : CodedFrom C W → CodedFrom D V → Type 0)
     (gives : (v : Value) → Runs (λ k w. Gives v k w) (λ k w. Gives v k w)) (traps : (trap : Trap) → Runs (λ k w. Ends (Traps trap) k w) (λ k w. Ends (Traps trap) k w))
     (stuck : Codes (λ k w. Stuck) (λ k w. Stuck)) (done : (v : Value) → Codes (λ k w. Ran (Gives v k w)) (λ k w. Ran (Gives v k w)))
-    (behind : (r : ℕ → W → Run C W Value) (q : ℕ → V → Run D V Value) (f : Value → ℕ → W → Coded C W) (g : Value → ℕ → V → Coded D V) → Runs r q → ((v : Value) → Codes (f v) (g v))
+    (behind : (r : RunFrom C W) (q : RunFrom D V) (f : Value → CodedFrom C W) (g : Value → CodedFrom D V) → Runs r q → ((v : Value) → Codes (f v) (g v))
     → Codes (λ k w. then_code (r k w) f) (λ k w. then_code (q k w) g))
-    (behind_code : (c : ℕ → W → Coded C W) (d : ℕ → V → Coded D V) (f : Value → ℕ → W → Coded C W) (g : Value → ℕ → V → Coded D V) → Codes c d → ((v : Value) → Codes (f v) (g v))
+    (behind_code : (c : CodedFrom C W) (d : CodedFrom D V) (f : Value → CodedFrom C W) (g : Value → CodedFrom D V) → Codes c d → ((v : Value) → Codes (f v) (g v))
     → Codes (λ k w. then_coded (c k w) f) (λ k w. then_coded (d k w) g)) where
   -- what the operations give
-  by_test : (b : Bool) (f g : ℕ → W → Run C W Value) (f' g' : ℕ → V → Run D V Value) → Runs f f' → Runs g g' → Runs (λ k w. if b then f k w else g k w) (λ k w. if b then f' k w else g' k w)
+  by_test : (b : Bool) (f g : RunFrom C W) (f' g' : RunFrom D V) → Runs f f' → Runs g g' → Runs (λ k w. if b then f k w else g k w) (λ k w. if b then f' k w else g' k w)
   by_test true f g f' g' h j = h
   by_test false f g f' g' h j = j
 
@@ -48,7 +59,7 @@ module _ (C W D V : Type 0) (Runs : (ℕ → W → Run C W Value) → (ℕ → V
   computes Div x y = divides (int_div x y) x y
   computes Rem x y = divides (int_rem x y) x y
 
-  indexes : (n : ℕ) (z : ℤ) (f : ℕ → ℕ → W → Run C W Value) (g : ℕ → ℕ → V → Run D V Value) → ((i : ℕ) → Runs (f i) (g i)) → Runs (λ k w. at_index n z f k w) (λ k w. at_index n z g k w)
+  indexes : (n : ℕ) (z : ℤ) (f : ℕ → RunFrom C W) (g : ℕ → RunFrom D V) → ((i : ℕ) → Runs (f i) (g i)) → Runs (λ k w. at_index n z f k w) (λ k w. at_index n z g k w)
   indexes n (pos i) f g h = by_test (nat_lt i n) (f i) (λ k w. Ends (Traps Index) k w) (g i) (λ k w. Ends (Traps Index) k w) (h i) (traps Index)
   indexes n (negsuc i) f g h = traps Index
 
@@ -63,12 +74,12 @@ module _ (C W D V : Type 0) (Runs : (ℕ → W → Run C W Value) → (ℕ → V
       indexes n z (λ i k w. limited limit types (VecTy n t) (ItemsV (replaced vs i v)) k w) (λ i k w. limited limit types (VecTy n t) (ItemsV (replaced vs i v)) k w)
       (λ i. limits limit types (VecTy n t) (ItemsV (replaced vs i v)))
 
-  some : {A : Type 0} (o : Option A) (f : A → ℕ → W → Coded C W) (g : A → ℕ → V → Coded D V) → ((a : A) → Codes (f a) (g a))
+  some : {A : Type 0} (o : Option A) (f : A → CodedFrom C W) (g : A → CodedFrom D V) → ((a : A) → Codes (f a) (g a))
       → Codes (λ k w. where_some o (λ a. f a k w)) (λ k w. where_some o (λ a. g a k w))
   some (Some a) f g h = h a
   some None f g h = stuck
 
-  pops : (n : ℕ) (ops : List Held) (vs : Values) (f : Values → List Held → ℕ → W → Coded C W) (g : Values → List Held → ℕ → V → Coded D V) → ((vs : Values) (ops : List Held) → Codes (f vs ops) (g vs ops))
+  pops : (n : ℕ) (ops : List Held) (vs : Values) (f : Values → List Held → CodedFrom C W) (g : Values → List Held → CodedFrom D V) → ((vs : Values) (ops : List Held) → Codes (f vs ops) (g vs ops))
       → Codes (λ k w. popped n ops vs (λ vs ops. f vs ops k w)) (λ k w. popped n ops vs (λ vs ops. g vs ops k w))
   pops zero ops vs f g h = h vs ops
   pops (suc n) (x ∷ ops) vs f g h = pops n ops (AndV x.value vs) f g h
@@ -76,41 +87,58 @@ module _ (C W D V : Type 0) (Runs : (ℕ → W → Run C W Value) → (ℕ → V
 
   module _ (B : Body) (mode : Mode C W) (other : Mode D V) (auths : (t : Ty) (v : Value) → mode.auth t v ≡ other.auth t v)
       (opens : (t : Ty) (v : Value) → Runs (λ k w. with_fuel k (mode.unauth t v w)) (λ k w. with_fuel k (other.unauth t v w)))
-      (c : ℕ → Values → ℕ → W → Coded C W) (d : ℕ → Values → ℕ → V → Coded D V) (calls : (f : ℕ) (vs : Values) → Codes (c f vs) (d f vs)) where
-    pair : (t : Ty) (v : Value) (f : Ty → Ty → Value → Value → ℕ → W → Coded C W) (g : Ty → Ty → Value → Value → ℕ → V → Coded D V) → ((a b : Ty) (x y : Value) → Codes (f a b x y) (g a b x y))
+      (c : ℕ → Values → CodedFrom C W) (d : ℕ → Values → CodedFrom D V) (calls : (f : ℕ) (vs : Values) → Codes (c f vs) (d f vs)) where
+    pair : (t : Ty) (v : Value) (f : Ty → Ty → Value → Value → CodedFrom C W) (g : Ty → Ty → Value → Value → CodedFrom D V) → ((a b : Ty) (x y : Value) → Codes (f a b x y) (g a b x y))
         → Codes (λ k w. on_pair B mode c t v (λ a b x y. f a b x y k w)) (λ k w. on_pair B other d t v (λ a b x y. g a b x y k w))
     pair (PairTy a b) (PairV x y) f g h = h a b x y
     pair t v f g h = stuck
 
-    con : (v : Value) (f : ℕ → Values → ℕ → W → Coded C W) (g : ℕ → Values → ℕ → V → Coded D V) → ((tag : ℕ) (vs : Values) → Codes (f tag vs) (g tag vs))
+    con : (v : Value) (f : ℕ → Values → CodedFrom C W) (g : ℕ → Values → CodedFrom D V) → ((tag : ℕ) (vs : Values) → Codes (f tag vs) (g tag vs))
         → Codes (λ k w. on_con B mode c v (λ tag vs. f tag vs k w)) (λ k w. on_con B other d v (λ tag vs. g tag vs k w))
     con (ConV tag vs) f g h = h tag vs
     con v f g h = stuck
 
-    bool : (v : Value) (f : Bool → ℕ → W → Coded C W) (g : Bool → ℕ → V → Coded D V) → ((b : Bool) → Codes (f b) (g b))
+    bool : (v : Value) (f : Bool → CodedFrom C W) (g : Bool → CodedFrom D V) → ((b : Bool) → Codes (f b) (g b))
         → Codes (λ k w. on_bool B mode c v (λ b. f b k w)) (λ k w. on_bool B other d v (λ b. g b k w))
     bool (BoolV b) f g h = h b
     bool v f g h = stuck
 
-    int : (v : Value) (f : ℤ → ℕ → W → Coded C W) (g : ℤ → ℕ → V → Coded D V) → ((z : ℤ) → Codes (f z) (g z))
+    int : (v : Value) (f : ℤ → CodedFrom C W) (g : ℤ → CodedFrom D V) → ((z : ℤ) → Codes (f z) (g z))
         → Codes (λ k w. on_int B mode c v (λ z. f z k w)) (λ k w. on_int B other d v (λ z. g z k w))
     int (IntV z) f g h = h z
     int v f g h = stuck
 
-    text : (v : Value) (f : List ℕ → ℕ → W → Coded C W) (g : List ℕ → ℕ → V → Coded D V) → ((bytes : List ℕ) → Codes (f bytes) (g bytes))
+    text : (v : Value) (f : List ℕ → CodedFrom C W) (g : List ℕ → CodedFrom D V) → ((bytes : List ℕ) → Codes (f bytes) (g bytes))
         → Codes (λ k w. on_text B mode c v (λ bytes. f bytes k w)) (λ k w. on_text B other d v (λ bytes. g bytes k w))
     text (TextV bytes) f g h = h bytes
     text v f g h = stuck
 
-    items : (t : Ty) (v : Value) (f : ℕ → Ty → Values → ℕ → W → Coded C W) (g : ℕ → Ty → Values → ℕ → V → Coded D V) → ((n : ℕ) (t : Ty) (vs : Values) → Codes (f n t vs) (g n t vs))
+    items : (t : Ty) (v : Value) (f : ℕ → Ty → Values → CodedFrom C W) (g : ℕ → Ty → Values → CodedFrom D V) → ((n : ℕ) (t : Ty) (vs : Values) → Codes (f n t vs) (g n t vs))
         → Codes (λ k w. on_items B mode c t v (λ n t vs. f n t vs k w)) (λ k w. on_items B other d t v (λ n t vs. g n t vs k w))
     items (VecTy n t) (ItemsV vs) f g h = h n t vs
     items t v f g h = stuck
 
+    -- two operands of a kind
+    ints : (v u : Value) (f : ℤ → ℤ → CodedFrom C W) (g : ℤ → ℤ → CodedFrom D V) → ((m n : ℤ) → Codes (f m n) (g m n))
+        → Codes (λ k w. on_int B mode c v (λ m. on_int B mode c u (λ n. f m n k w))) (λ k w. on_int B other d v (λ m. on_int B other d u (λ n. g m n k w)))
+    ints v u f g h = int v (λ m k w. on_int B mode c u (λ n. f m n k w)) (λ m k w. on_int B other d u (λ n. g m n k w)) (λ m. int u (f m) (g m) (h m))
+
+    texts : (v u : Value) (f : List ℕ → List ℕ → CodedFrom C W) (g : List ℕ → List ℕ → CodedFrom D V) → ((m n : List ℕ) → Codes (f m n) (g m n))
+        → Codes (λ k w. on_text B mode c v (λ m. on_text B mode c u (λ n. f m n k w))) (λ k w. on_text B other d v (λ m. on_text B other d u (λ n. g m n k w)))
+    texts v u f g h = text v (λ m k w. on_text B mode c u (λ n. f m n k w)) (λ m k w. on_text B other d u (λ n. g m n k w)) (λ m. text u (f m) (g m) (h m))
+
+    -- an array, and an int that tells a place in it
+    indexed : (t : Ty) (v u : Value) (f : ℕ → Ty → Values → ℤ → CodedFrom C W) (g : ℕ → Ty → Values → ℤ → CodedFrom D V)
+        → ((n : ℕ) (t : Ty) (vs : Values) (z : ℤ) → Codes (f n t vs z) (g n t vs z))
+        → Codes (λ k w. on_items B mode c t v (λ n t vs. on_int B mode c u (λ z. f n t vs z k w)))
+        (λ k w. on_items B other d t v (λ n t vs. on_int B other d u (λ z. g n t vs z k w)))
+    indexed t v u f g h =
+        items t v (λ n t vs k w. on_int B mode c u (λ z. f n t vs z k w)) (λ n t vs k w. on_int B other d u (λ z. g n t vs z k w))
+        (λ n t vs. int u (f n t vs) (g n t vs) (h n t vs))
+
     module _ (next : Next C W) (next' : Next D V) (on : (n : ℕ) (env ops : List Held) → Codes (next n env ops) (next' n env ops)) where
       -- a value that a run gives becomes the top operand
-      push : (t : Ty) (r : ℕ → W → Run C W Value) (q : ℕ → V → Run D V Value) (env ops : List Held) → Runs r q
-          → Codes (λ k w. then_code (r k w) (λ v k w. next 0 env (held t v ∷ ops) k w)) (λ k w. then_code (q k w) (λ v k w. next' 0 env (held t v ∷ ops) k w))
+      push : (t : Ty) (r : RunFrom C W) (q : RunFrom D V) (env ops : List Held) → Runs r q → Codes (run_on next t env ops r) (run_on next' t env ops q)
       push t r q env ops h = behind r q (λ v k w. next 0 env (held t v ∷ ops) k w) (λ v k w. next' 0 env (held t v ∷ ops) k w) h (λ v. on 0 env (held t v ∷ ops))
 
       acts : (i : Instruction) (env ops : List Held) → Codes (λ k w. act B mode c i next env ops k w) (λ k w. act B other d i next' env ops k w)
@@ -125,46 +153,77 @@ module _ (C W D V : Type 0) (Runs : (ℕ → W → Run C W Value) → (ℕ → V
       acts Pair env (y ∷ (x ∷ ops)) = push (PairTy x.ty y.ty) _ _ env ops (limits B.limit B.types (PairTy x.ty y.ty) (PairV x.value y.value))
       acts Pair env (y ∷ []) = stuck
       acts Pair env [] = stuck
-      acts Fst env (x ∷ ops) = pair x.ty x.value (λ a b u v k w. next 0 env (held a u ∷ ops) k w) (λ a b u v k w. next' 0 env (held a u ∷ ops) k w) (λ a b u v. on 0 env (held a u ∷ ops))
+      acts Fst env (x ∷ ops) =
+          pair x.ty x.value (λ a b u v k w. next 0 env (held a u ∷ ops) k w) (λ a b u v k w. next' 0 env (held a u ∷ ops) k w) (λ a b u v. on 0 env (held a u ∷ ops))
       acts Fst env [] = stuck
-      acts Snd env (x ∷ ops) = pair x.ty x.value (λ a b u v k w. next 0 env (held b v ∷ ops) k w) (λ a b u v k w. next' 0 env (held b v ∷ ops) k w) (λ a b u v. on 0 env (held b v ∷ ops))
+      acts Snd env (x ∷ ops) =
+          pair x.ty x.value (λ a b u v k w. next 0 env (held b v ∷ ops) k w) (λ a b u v k w. next' 0 env (held b v ∷ ops) k w) (λ a b u v. on 0 env (held b v ∷ ops))
       acts Snd env [] = stuck
-      acts (Make number tag) env ops = pops (field_count B.types number tag) ops NoV (λ vs ops k w. then_code (limited B.limit B.types (NamedTy number) (ConV tag vs) k w) (λ v k w. next 0 env (held (NamedTy number) v ∷ ops) k w)) (λ vs ops k w. then_code (limited B.limit B.types (NamedTy number) (ConV tag vs) k w) (λ v k w. next' 0 env (held (NamedTy number) v ∷ ops) k w)) (λ vs ops. push (NamedTy number) _ _ env ops (limits B.limit B.types (NamedTy number) (ConV tag vs)))
-      acts (Switch number places) env (x ∷ ops) = con x.value (λ tag vs k w. where_some (slice_get places tag) (λ n. next n (env ++ tie (unwrap_or (fields_at B.types number tag) []) vs) ops k w)) (λ tag vs k w. where_some (slice_get places tag) (λ n. next' n (env ++ tie (unwrap_or (fields_at B.types number tag) []) vs) ops k w)) (λ tag vs. some (slice_get places tag) (λ n k w. next n (env ++ tie (unwrap_or (fields_at B.types number tag) []) vs) ops k w) (λ n k w. next' n (env ++ tie (unwrap_or (fields_at B.types number tag) []) vs) ops k w) (λ n. on n _ ops))
+      acts (Make number tag) env ops =
+          pops (field_count B.types number tag) ops NoV (λ vs ops. run_on next (NamedTy number) env ops (limited B.limit B.types (NamedTy number) (ConV tag vs)))
+          (λ vs ops. run_on next' (NamedTy number) env ops (limited B.limit B.types (NamedTy number) (ConV tag vs)))
+          (λ vs ops. push (NamedTy number) _ _ env ops (limits B.limit B.types (NamedTy number) (ConV tag vs)))
+      acts (Switch number places) env (x ∷ ops) =
+          let bound : ℕ → Values → List Held = λ tag vs. env ++ tie (unwrap_or (fields_at B.types number tag) []) vs in
+          con x.value (λ tag vs k w. where_some (slice_get places tag) (λ n. next n (bound tag vs) ops k w))
+          (λ tag vs k w. where_some (slice_get places tag) (λ n. next' n (bound tag vs) ops k w))
+          (λ tag vs. some (slice_get places tag) (λ n k w. next n (bound tag vs) ops k w) (λ n k w. next' n (bound tag vs) ops k w) (λ n. on n (bound tag vs) ops))
       acts (Switch number places) env [] = stuck
-      acts (Branch n) env (x ∷ ops) = bool x.value (λ b k w. next (if b then 0 else n) env ops k w) (λ b k w. next' (if b then 0 else n) env ops k w) (λ b. on (if b then 0 else n) env ops)
+      acts (Branch n) env (x ∷ ops) =
+          bool x.value (λ b k w. next (if b then 0 else n) env ops k w) (λ b k w. next' (if b then 0 else n) env ops k w) (λ b. on (if b then 0 else n) env ops)
       acts (Branch n) env [] = stuck
       acts (Jump n) env ops = on n env ops
-      acts (Call f) env ops = pops (length (code_at B f).parameters) ops NoV (λ vs ops k w. then_coded (c f vs k w) (λ v k w. next 0 env (held (code_at B f).result v ∷ ops) k w)) (λ vs ops k w. then_coded (d f vs k w) (λ v k w. next' 0 env (held (code_at B f).result v ∷ ops) k w)) (λ vs ops. behind_code (c f vs) (d f vs) (λ v k w. next 0 env (held (code_at B f).result v ∷ ops) k w) (λ v k w. next' 0 env (held (code_at B f).result v ∷ ops) k w) (calls f vs) (λ v. on 0 env _))
+      acts (Call f) env ops =
+          let g = code_at B f in
+          pops (length g.parameters) ops NoV (λ vs ops k w. then_coded (c f vs k w) (λ v k w. next 0 env (held g.result v ∷ ops) k w))
+          (λ vs ops k w. then_coded (d f vs k w) (λ v k w. next' 0 env (held g.result v ∷ ops) k w))
+          (λ vs ops. behind_code (c f vs) (d f vs) (λ v k w. next 0 env (held g.result v ∷ ops) k w) (λ v k w. next' 0 env (held g.result v ∷ ops) k w)
+          (calls f vs) (λ v. on 0 env (held g.result v ∷ ops)))
       acts Return env (x ∷ []) = done x.value
       acts Return env (x ∷ (y ∷ ops)) = stuck
       acts Return env [] = stuck
-      acts (Auth t) env (x ∷ ops) = subst (λ v. Codes (λ k w. next 0 env (held (AuthTy t) (mode.auth t x.value) ∷ ops) k w) (λ k w. next' 0 env (held (AuthTy t) v ∷ ops) k w)) (auths t x.value) (on 0 env _)
+      acts (Auth t) env (x ∷ ops) =
+          subst (λ v. Codes (λ k w. next 0 env (held (AuthTy t) (mode.auth t x.value) ∷ ops) k w) (λ k w. next' 0 env (held (AuthTy t) v ∷ ops) k w)) (auths t x.value)
+          (on 0 env _)
       acts (Auth t) env [] = stuck
       acts (Unauth t) env (x ∷ ops) = push t _ _ env ops (opens t x.value)
       acts (Unauth t) env [] = stuck
-      acts (ArithOp op) env (y ∷ (x ∷ ops)) = int x.value (λ m k w. on_int B mode c y.value (λ n. then_code (arith_of op m n k w) (λ v k w. next 0 env (held IntTy v ∷ ops) k w))) (λ m k w. on_int B other d y.value (λ n. then_code (arith_of op m n k w) (λ v k w. next' 0 env (held IntTy v ∷ ops) k w))) (λ m. int y.value (λ n k w. then_code (arith_of op m n k w) (λ v k w. next 0 env (held IntTy v ∷ ops) k w)) (λ n k w. then_code (arith_of op m n k w) (λ v k w. next' 0 env (held IntTy v ∷ ops) k w)) (λ n. push IntTy _ _ env ops (computes op m n)))
+      acts (ArithOp op) env (y ∷ (x ∷ ops)) =
+          ints x.value y.value (λ m n. run_on next IntTy env ops (arith_of op m n)) (λ m n. run_on next' IntTy env ops (arith_of op m n))
+          (λ m n. push IntTy _ _ env ops (computes op m n))
       acts (ArithOp op) env (y ∷ []) = stuck
       acts (ArithOp op) env [] = stuck
-      acts (CompareOp op) env (y ∷ (x ∷ ops)) = int x.value (λ m k w. on_int B mode c y.value (λ n. next 0 env (held BoolTy (BoolV (compare_of op m n)) ∷ ops) k w)) (λ m k w. on_int B other d y.value (λ n. next' 0 env (held BoolTy (BoolV (compare_of op m n)) ∷ ops) k w)) (λ m. int y.value (λ n k w. next 0 env (held BoolTy (BoolV (compare_of op m n)) ∷ ops) k w) (λ n k w. next' 0 env (held BoolTy (BoolV (compare_of op m n)) ∷ ops) k w) (λ n. on 0 env _))
+      acts (CompareOp op) env (y ∷ (x ∷ ops)) =
+          ints x.value y.value (λ m n. next 0 env (held BoolTy (BoolV (compare_of op m n)) ∷ ops)) (λ m n. next' 0 env (held BoolTy (BoolV (compare_of op m n)) ∷ ops))
+          (λ m n. on 0 env _)
       acts (CompareOp op) env (y ∷ []) = stuck
       acts (CompareOp op) env [] = stuck
-      acts (TextCompareOp op) env (y ∷ (x ∷ ops)) = text x.value (λ m k w. on_text B mode c y.value (λ n. next 0 env (held BoolTy (BoolV (text_compare_of op m n)) ∷ ops) k w)) (λ m k w. on_text B other d y.value (λ n. next' 0 env (held BoolTy (BoolV (text_compare_of op m n)) ∷ ops) k w)) (λ m. text y.value (λ n k w. next 0 env (held BoolTy (BoolV (text_compare_of op m n)) ∷ ops) k w) (λ n k w. next' 0 env (held BoolTy (BoolV (text_compare_of op m n)) ∷ ops) k w) (λ n. on 0 env _))
+      acts (TextCompareOp op) env (y ∷ (x ∷ ops)) =
+          texts x.value y.value (λ m n. next 0 env (held BoolTy (BoolV (text_compare_of op m n)) ∷ ops)) (λ m n. next' 0 env (held BoolTy (BoolV (text_compare_of op m n)) ∷ ops))
+          (λ m n. on 0 env _)
       acts (TextCompareOp op) env (y ∷ []) = stuck
       acts (TextCompareOp op) env [] = stuck
-      acts Cat env (y ∷ (x ∷ ops)) = text x.value (λ m k w. on_text B mode c y.value (λ n. then_code (limited B.limit B.types TextTy (TextV (m ++ n)) k w) (λ v k w. next 0 env (held TextTy v ∷ ops) k w))) (λ m k w. on_text B other d y.value (λ n. then_code (limited B.limit B.types TextTy (TextV (m ++ n)) k w) (λ v k w. next' 0 env (held TextTy v ∷ ops) k w))) (λ m. text y.value (λ n k w. then_code (limited B.limit B.types TextTy (TextV (m ++ n)) k w) (λ v k w. next 0 env (held TextTy v ∷ ops) k w)) (λ n k w. then_code (limited B.limit B.types TextTy (TextV (m ++ n)) k w) (λ v k w. next' 0 env (held TextTy v ∷ ops) k w)) (λ n. push TextTy _ _ env ops (limits B.limit B.types TextTy (TextV (m ++ n)))))
+      acts Cat env (y ∷ (x ∷ ops)) =
+          texts x.value y.value (λ m n. run_on next TextTy env ops (limited B.limit B.types TextTy (TextV (m ++ n))))
+          (λ m n. run_on next' TextTy env ops (limited B.limit B.types TextTy (TextV (m ++ n)))) (λ m n. push TextTy _ _ env ops (limits B.limit B.types TextTy (TextV (m ++ n))))
       acts Cat env (y ∷ []) = stuck
       acts Cat env [] = stuck
-      acts Len env (x ∷ ops) = text x.value (λ m k w. next 0 env (held IntTy (IntV (pos (length m))) ∷ ops) k w) (λ m k w. next' 0 env (held IntTy (IntV (pos (length m))) ∷ ops) k w) (λ m. on 0 env _)
+      acts Len env (x ∷ ops) =
+          text x.value (λ m k w. next 0 env (held IntTy (IntV (pos (length m))) ∷ ops) k w) (λ m k w. next' 0 env (held IntTy (IntV (pos (length m))) ∷ ops) k w) (λ m. on 0 env _)
       acts Len env [] = stuck
-      acts Not env (x ∷ ops) = bool x.value (λ b k w. next 0 env (held BoolTy (BoolV (not b)) ∷ ops) k w) (λ b k w. next' 0 env (held BoolTy (BoolV (not b)) ∷ ops) k w) (λ b. on 0 env _)
+      acts Not env (x ∷ ops) =
+          bool x.value (λ b k w. next 0 env (held BoolTy (BoolV (not b)) ∷ ops) k w) (λ b k w. next' 0 env (held BoolTy (BoolV (not b)) ∷ ops) k w) (λ b. on 0 env _)
       acts Not env [] = stuck
       acts (VecFill n) env (x ∷ ops) = push (VecTy n x.ty) _ _ env ops (fills B.limit B.types n x.ty x.value)
       acts (VecFill n) env [] = stuck
-      acts VecGet env (y ∷ (x ∷ ops)) = items x.ty x.value (λ n t vs k w. on_int B mode c y.value (λ z. then_code (get_of n vs z k w) (λ v k w. next 0 env (held t v ∷ ops) k w))) (λ n t vs k w. on_int B other d y.value (λ z. then_code (get_of n vs z k w) (λ v k w. next' 0 env (held t v ∷ ops) k w))) (λ n t vs. int y.value (λ z k w. then_code (get_of n vs z k w) (λ v k w. next 0 env (held t v ∷ ops) k w)) (λ z k w. then_code (get_of n vs z k w) (λ v k w. next' 0 env (held t v ∷ ops) k w)) (λ z. push t _ _ env ops (gets n vs z)))
+      acts VecGet env (y ∷ (x ∷ ops)) =
+          indexed x.ty x.value y.value (λ n t vs z. run_on next t env ops (get_of n vs z)) (λ n t vs z. run_on next' t env ops (get_of n vs z))
+          (λ n t vs z. push t _ _ env ops (gets n vs z))
       acts VecGet env (y ∷ []) = stuck
       acts VecGet env [] = stuck
-      acts VecPut env (e ∷ (y ∷ (x ∷ ops))) = items x.ty x.value (λ n t vs k w. on_int B mode c y.value (λ z. then_code (put_of B.limit B.types n t vs z e.value k w) (λ v k w. next 0 env (held (VecTy n t) v ∷ ops) k w))) (λ n t vs k w. on_int B other d y.value (λ z. then_code (put_of B.limit B.types n t vs z e.value k w) (λ v k w. next' 0 env (held (VecTy n t) v ∷ ops) k w))) (λ n t vs. int y.value (λ z k w. then_code (put_of B.limit B.types n t vs z e.value k w) (λ v k w. next 0 env (held (VecTy n t) v ∷ ops) k w)) (λ z k w. then_code (put_of B.limit B.types n t vs z e.value k w) (λ v k w. next' 0 env (held (VecTy n t) v ∷ ops) k w)) (λ z. push (VecTy n t) _ _ env ops (puts B.limit B.types n t vs z e.value)))
+      acts VecPut env (e ∷ (y ∷ (x ∷ ops))) =
+          indexed x.ty x.value y.value (λ n t vs z. run_on next (VecTy n t) env ops (put_of B.limit B.types n t vs z e.value))
+          (λ n t vs z. run_on next' (VecTy n t) env ops (put_of B.limit B.types n t vs z e.value)) (λ n t vs z. push (VecTy n t) _ _ env ops (puts B.limit B.types n t vs z e.value))
       acts VecPut env (e ∷ (y ∷ [])) = stuck
       acts VecPut env (e ∷ []) = stuck
       acts VecPut env [] = stuck

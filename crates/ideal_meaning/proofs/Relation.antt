@@ -67,12 +67,14 @@ module _ (hash : Hash) (P : Program) (form : PieceForm) (Deep : Type 0) (began :
       more : (more : List Opened) × (state_of (then_run ideal f) ≡ p.parts.before ++ p.parts.x ∷ (p.parts.after ++ more))
       more = opened_later ideal f p.parts.before p.parts.x p.parts.after grow p.parts.seen
 
-      later : OffersOtherAs hash P form p.parts.x p.parts.at ⊎ IsRefusedAs hash P form p.parts.x p.parts.at checked → OffersOtherAs hash P form p.parts.x p.parts.at ⊎ IsRefusedAs hash P form p.parts.x p.parts.at (then_run checked g)
+      later : OffersOtherAs hash P form p.parts.x p.parts.at ⊎ IsRefusedAs hash P form p.parts.x p.parts.at checked
+          → OffersOtherAs hash P form p.parts.x p.parts.at ⊎ IsRefusedAs hash P form p.parts.x p.parts.at (then_run checked g)
       later (inl h) = inl h
       later (inr h) = inr (record { cause = h.cause; fuel = h.fuel; left = h.left; is = ap (λ r. then_run r g) h.is; refused = h.refused; only = h.only })
 
   -- what agrees, goes on in agreement
-  pub agree_then : {A B C D : Type 0} (Known : A → Type 0) (project : A → B) (Known' : C → Type 0) (project' : C → D) (ideal : Run ⊥ (List Opened) A) (checked : Run Cause Taking B) (f : A → ℕ → List Opened → Run ⊥ (List Opened) C) (g : B → ℕ → Taking → Run Cause Taking D)
+  pub agree_then : {A B C D : Type 0} (Known : A → Type 0) (project : A → B) (Known' : C → Type 0) (project' : C → D) (ideal : Run ⊥ (List Opened) A) (checked : Run Cause Taking B)
+      (f : A → ℕ → List Opened → Run ⊥ (List Opened) C) (g : B → ℕ → Taking → Run Cause Taking D)
       → Agree Known project ideal checked → ((a : A) (k : ℕ) (s : List Opened) → Grows s (f a k s))
       → ((a : A) (k : ℕ) (s : List Opened) (w : Taking) → Known a → InStep s w → Agree Known' project' (f a k s) (g (project a) k w))
       → Agree Known' project' (then_run ideal f) (then_run checked g)

@@ -5,7 +5,7 @@ use Rattle.core_terms.specs.Types.{Ty, PairTy, NamedTy, AuthTy, VecTy, Table, fi
 use Rattle.core_terms.specs.Values.{Value, PairV, ConV, ItemsV, Values, NoV, AndV}
 use Rattle.images.specs.Images.{Entry, entry}
 use Rattle.images.specs.SavedImages.{walk, walk_all}
-use Rattle.images.proofs.AmongEntries.{IsAmong, AreAmong, among_behind, among_here, are_first, are_second}
+use Rattle.images.proofs.AmongEntries.{IsAmong, AreAmong, are_first, are_second}
 
 abbrev pub fields : List Ty → Values → List Entry
 fields (t ∷ ts) (AndV v vs) = entry t v ∷ fields ts vs
@@ -39,10 +39,6 @@ module _ (types : Table) where
   walk_parts (VecTy n t) (ItemsV vs) = ap (λ es. es ++ entry (VecTy n t) (ItemsV vs) ∷ []) (walks_fields (item_types n t) vs)
   walk_parts (AuthTy t) v = ap (λ es. es ++ entry (AuthTy t) v ∷ []) (sym (append-nil (walk types t v)))
   walk_parts t v = refl
-
-  -- the whole is among what the walk over it meets
-  pub among_walk : (e : Entry) → IsAmong (walk types e.of_type e.value) e
-  among_walk e = rw (walk_parts e.of_type e.value) (among_behind e (walks (parts e.of_type e.value)) (e ∷ []) (among_here e []))
 
   -- where walks are among some entries, so is what was walked over
   pub among_walks : (done es : List Entry) → AreAmong done (walks es) → AreAmong done es

@@ -18,10 +18,6 @@ marked_within marks i h = by (nat_lt i (length marks)) refl
     by true e = ltb-true i (length marks) e
     by false e = let none = get_or_past marks i false (ltb-false i (length marks) e) in absurd (cc)
 
--- nothing is marked by doing nothing
-pub no_marks : (P : ℕ → Type 0) (marks : List Bool) → ((i : ℕ) → P i → ⊥) → AddsMarks P marks marks
-no_marks P marks none = (refl, λ i h. h, λ i h. inl h, λ i h. absurd (none i h))
-
 -- one mark
 pub one_mark : (marks : List Bool) (n : ℕ) → n < length marks → AddsMarks (λ i. n ≡ i) marks (slice_set marks n true)
 one_mark marks n h = (length-set marks n true, kept, back, λ i e. subst (IsMarked (slice_set marks n true)) e here)

@@ -1,5 +1,5 @@
 -- What is marked when marks are spread to parts, with no named type opened.
-use Rattle.std.proofs.Common.{◌≡◌, inl, inr, ℕ, ◌+◌, ◌<◌, ◌≤◌, Bool, true, false, List, length, slice_index_or, nat_eq, nat_lt, refl, sym, ap, ◌∙◌, subst, arith, ltb-true, eqb-true}
+use Rattle.std.proofs.Common.{◌≡◌, inl, inr, ℕ, ◌+◌, ◌<◌, ◌≤◌, Bool, true, false, List, length, nat_eq, nat_lt, refl, sym, ap, ◌∙◌, subst, arith, ltb-true, eqb-true}
 use Rattle.std.proofs.lemmas.Bool.{eqb-false}
 use Rattle.core_terms.specs.Types.{Ty, UnitTy, BoolTy, IntTy, TextTy, PairTy, NamedTy, AuthTy, VecTy}
 use Rattle.core_terms.specs.ProgramTypes.{types_by_number, types_meaning}
@@ -60,17 +60,6 @@ module _ (p : Types) where
   pub spread_first : (n : ℕ) (marks : List Bool) → ((i : ℕ) → IsMarked marks i → i < n) → IsSpreadFrom n marks marks
   spread_first n marks below =
       (refl, λ i h. h, λ i h. (i, h, itself (types_meaning p).types 0 (type_of p i)), λ i from h. let small = below i h in absurd (omega (arith, small, from)))
-
-  -- a type that isn't marked has nothing to spread
-  pub spread_skip : (n m : ℕ) (old now : List Bool) → n ≡ m + 1 → slice_index_or now m false ≡ false → IsSpreadFrom n old now → IsSpreadFrom m old now
-  spread_skip n m old now is not_marked h = (h.0, h.1, h.2, parts)
-    where
-      parts : (i : ℕ) → m ≤ i → IsMarked now i → HasMarkedParts now i
-      parts i from marked = by (nat_eq i m) refl
-        where
-          by : (b : Bool) → nat_eq i m ≡ b → HasMarkedParts now i
-          by true e = let here : slice_index_or now m false ≡ true = ap (λ k. slice_index_or now k false) (sym (eqb-true i m e)) ∙ marked in absurd (cc)
-          by false e = h.3 i (omega (arith, is, from, eqb-false i m e)) marked
 
   -- one that is marked has its direct parts marked
   pub spread_step : (n m : ℕ) (form : TyForm) (old now new : List Bool) → n ≡ m + 1 → IsMarked now m → type_of_form (types_by_number p) form ≡ type_of p m → stands_behind m form ≡ true

@@ -2,6 +2,13 @@
 use Rattle.std.specs.Prelude.{ℕ, suc, ◌-◌, List, [], ◌∷◌, nat_lt, slice_index_or, if◌then◌else◌}
 use Rattle.value_store.specs.declared.node.Ref.{Ref}
 use Rattle.images.specs.declared.stored.StoredRecord.{StoredRecord}
+use Rattle.images.specs.declared.type_numbers.Numbers.{Numbers}
+use Rattle.images.specs.declared.type_numbers.Numbers.TheVariants.{Narrow, Wide}
+
+-- the numbers of types, in few bytes each or in more
+abbrev pub numbers_kept : Numbers → List ℕ
+numbers_kept (Narrow numbers) = numbers.items
+numbers_kept (Wide numbers) = numbers.items
 
 -- the node of the record with this number: of the first ones the node with that number, and these of the others
 abbrev pub node_at : (same : ℕ) (others : List Ref) → ℕ → Ref

@@ -19,6 +19,7 @@ mod record;
 mod save;
 mod stored;
 mod stored_records;
+mod type_numbers;
 
 pub use fault::{ImageFault, SaveFault};
 pub use load::{Loaded, load_image};

@@ -89,7 +89,7 @@ fn load_records<'a, M: Marker>(
     ensures knows { M.Knows parts.now.types.now marker.new }
 {
     let mut store = Store::new(alloc, parts.size_limit());
-    let mut loaded = StoredRecords::new(alloc);
+    let mut loaded = StoredRecords::new(alloc, parts.types.type_count());
     let mut rest = header.records;
     for number in 0..header.count {
         let front = next_front(parts, number, size, rest)?;

@@ -32,8 +32,8 @@ use value_store::{Nodes, Ref, Store};
 const MOST_BYTES: usize = 67_108_824;
 
 /// The image of the state that a node stands for: the distinct parts of the value, each once, in the order in which a walk that visits
-/// parts from left to right before the whole first completes them. The node is read over ideal nodes or the prover's. What is written
-/// loads to the state again.
+/// parts from left to right before the whole first completes them. The node is read over ideal nodes or the prover's, in a store with
+/// the limit of the types' format. What is written loads to the state again.
 ///
 /// # Errors
 ///

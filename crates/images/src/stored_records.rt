@@ -3,18 +3,17 @@ ghost use Rattle.std.specs.Prelude.{◌≡◌, ◌+◌, ◌-◌, ◌<◌, ◌++�
 ghost use Rattle.images.specs.KeptRecords.{node_at};
 
 use crate::stored::StoredRecord;
+use crate::type_numbers::TypeNumbers;
 use core_terms::TyId;
 use std::alloc::{AllocError, Global};
 use std::marker::Model;
 use value_store::Ref;
 
-/// The greatest number of a type that is kept.
-const MOST_TYPE: usize = 4_294_967_295;
-
-/// The records that are loaded. Most often each is the node with its own number, so that its type is all that is kept of it, in 4 bytes.
+/// The records that are loaded. Most often each is the node with its own number, so that its type is all that is kept of it, in a byte
+/// where the program has few types.
 #[derive(Drop)]
 pub(crate) struct StoredRecords {
-    types: Vec<u32>,
+    types: TypeNumbers,
     /// How many of the first ones are the nodes with their own numbers.
     same: usize,
     /// The nodes of the others.
@@ -29,18 +28,18 @@ impl Model for StoredRecords {
 
     ghost use Rattle.images.specs.KeptRecords.{records_kept};
 
-    ghost view = { λ kept. records_kept kept.same kept.others.items kept.types.items };
+    ghost view = { λ kept. records_kept kept.same kept.others.items kept.types };
 
-    ghost invariant = { λ kept. kept.same + length kept.others.items ≡ length kept.types.items };
+    ghost invariant = { λ kept. kept.same + length kept.others.items ≡ length kept.types };
 }
 
 impl StoredRecords {
-    /// No records.
-    pub fn new(alloc: Global) -> Self
+    /// No records, of a program with so many types.
+    pub fn new(alloc: Global, types: usize) -> Self
         ensures { result ≡ [] }
     {
         StoredRecords {
-            types: Vec::new(alloc),
+            types: TypeNumbers::new(alloc, types),
             same: 0,
             others: Vec::new(alloc),
         }
@@ -50,7 +49,7 @@ impl StoredRecords {
     pub fn get(&self, number: usize) -> Option<StoredRecord>
         ensures { result ≡ slice_get self.now number }
     {
-        let Some(ty) = type_at(&self.types, number) else {
+        let Some(ty) = self.types.get(number) else {
             return None;
         };
         Some(StoredRecord {
@@ -66,35 +65,26 @@ impl StoredRecords {
         self.get(self.types.len().saturating_sub(1))
     }
 
-    /// Adds a record. One of a type behind the first 2^32 finds no room.
+    /// Adds a record. One of a type behind those of the program finds no room.
     // For each record of an image, in two loaders.
     #[inline(always)]
     pub fn push(&mut self, found: StoredRecord) -> Result<(), AllocError>
         ensures { OnOk result (self.new ≡ self.old ++ found ∷ []) }
     {
-        if found.ty.0 > MOST_TYPE {
-            return Err(AllocError);
-        }
-        self.types.push(found.ty.0 as u32)?;
         if self.others.is_empty() && found.value.0 == self.same {
+            self.types.push(found.ty.0)?;
             self.same += 1;
             return Ok(());
         }
-        match self.others.push(found.value) {
-            Ok(_) => Ok(()),
-            Err(_) => {
-                self.types.pop();
+        self.others.push(found.value)?;
+        match self.types.push(found.ty.0) {
+            Ok(()) => Ok(()),
+            Err(AllocError) => {
+                self.others.pop();
                 Err(AllocError)
             }
         }
     }
-}
-
-/// The number of a record's type, where there are so many records.
-fn type_at(types: &[u32], number: usize) -> Option<u32>
-    ensures { result ≡ slice_get types.now number }
-{
-    types.get(number).copied()
 }
 
 /// The node of the record with this number.

@@ -5,24 +5,26 @@ use Rattle.command_words.specs.Commands.{texts}
 use Rattle.command_words.specs.declared.command.Command.{Command}
 use Rattle.lam_outside.specs.Told.{Contents, Names, Stores}
 use Rattle.printed_lines.specs.declared.refusal.Refusal.TheVariants as refusal
-use Rattle.file_commands.specs.Answer.{Founding, answer_with}
-use Rattle.file_commands.specs.AnswerForms.{Answer}
-use Rattle.file_commands.specs.Outsides.{Outside}
-use Rattle.file_commands.specs.Halting.{MayHalt, ending_status, halt_status}
-use Rattle.file_commands.specs.Reaching.{HaltsAt, IsReached, without}
-use Rattle.file_commands.specs.Storing.{StoresAndTells}
-use Rattle.file_commands.specs.Telling.{Tells}
-use Rattle.file_commands.specs.declared.report.Ending.{Ending}
-use Rattle.file_commands.specs.declared.report.Ending.TheVariants as ending
-use Rattle.file_commands.specs.declared.report.Halt.{Halt}
-use Rattle.file_commands.specs.declared.report.Halt.TheVariants.{Usage, Refused, ReadFault, NoMemory}
-use Rattle.file_commands.specs.declared.report.Output.{Output}
-use Rattle.file_commands.specs.declared.status.Status.{Status}
-use Rattle.file_commands.specs.declared.status.Status.TheVariants as status
-use Rattle.file_commands.proofs.Words.{apart, texts_from}
+use Rattle.command_parts.specs.Answer.{Founding, answer_with}
+use Rattle.command_parts.specs.AnswerForms.{Answer}
+use Rattle.command_parts.specs.Outsides.{Outside}
+use Rattle.command_parts.specs.Halting.{MayHalt, ending_status, halt_status}
+use Rattle.command_parts.specs.Reaching.{IsReached, without}
+use Rattle.command_parts.specs.ReachingInCode.{HaltsAt}
+use Rattle.command_parts.specs.Storing.{StoresAndTells}
+use Rattle.command_parts.specs.TellingInCode.{Tells}
+use Rattle.command_parts.specs.declared.report.Ending.{Ending}
+use Rattle.command_parts.specs.declared.report.Ending.TheVariants as ending
+use Rattle.command_parts.specs.declared.report.Halt.{Halt}
+use Rattle.command_parts.specs.declared.report.Halt.TheVariants.{Usage, Refused, ReadFault, NoMemory}
+use Rattle.command_parts.specs.declared.report.Output.{Output}
+use Rattle.command_parts.specs.declared.status.Status.{Status}
+use Rattle.command_parts.specs.declared.status.Status.TheVariants as status
+use Rattle.command_parts.proofs.Words.{apart, texts_from}
 use Rattle.journal_commands.specs.DiskCounts.{DiskCountsBy}
 use Rattle.journal_commands.specs.DisksSeen.{DiskSeen, FromChosen}
-use Rattle.journal_commands.specs.Founding.{LeavesDisk, LeavesFile, LeavesOn}
+use Rattle.journal_commands.specs.Founding.{LeavesDisk, LeavesFile}
+use Rattle.journal_commands.specs.FoundingInCode.{LeavesOn}
 use Rattle.journal_commands.specs.Stops.{WorkCause}
 use Rattle.journal_commands.specs.declared.stop.DiskStop.{DiskStop}
 use Rattle.journal_commands.specs.declared.stop.DiskStop.TheVariants.{Halts, WriteFault}

@@ -6,20 +6,20 @@ use Rattle.std.specs.Io.KnownBytes.{append_known}
 use Rattle.std.proofs.lemmas.List.{append-nil}
 use Rattle.command_words.specs.Commands.{texts}
 use Rattle.lam_outside.specs.Told.{Contents, Stores}
-use Rattle.file_commands.specs.AnswerForms.{Answer}
-use Rattle.file_commands.specs.Ending.{EndsAs, IsToldAs, StoresSome}
-use Rattle.file_commands.specs.Outsides.{Outside}
-use Rattle.file_commands.specs.Halting.{HaltsAs}
-use Rattle.file_commands.specs.Storing.{FindsOutput, StoresAndTells}
-use Rattle.file_commands.specs.Telling.{Tells}
-use Rattle.file_commands.specs.declared.report.Halt.{Halt}
-use Rattle.file_commands.specs.declared.report.Output.{Output}
-use Rattle.file_commands.specs.declared.report.Report.{Report}
-use Rattle.file_commands.specs.declared.status.Status.{Status}
-use Rattle.file_commands.specs.declared.status.Status.TheVariants as status
-use Rattle.file_commands.proofs.Ends.{adds_none, ends_as, judging}
-use Rattle.file_commands.proofs.EndsStored.{ends_stored}
-use Rattle.file_commands.proofs.Words.{apart, texts_from}
+use Rattle.command_parts.specs.AnswerForms.{Answer}
+use Rattle.command_parts.specs.Ending.{EndsAs, IsToldAs, StoresSome}
+use Rattle.command_parts.specs.Outsides.{Outside}
+use Rattle.command_parts.specs.Halting.{HaltsAs}
+use Rattle.command_parts.specs.Storing.{FindsOutput, StoresAndTells}
+use Rattle.command_parts.specs.TellingInCode.{Tells}
+use Rattle.command_parts.specs.declared.report.Halt.{Halt}
+use Rattle.command_parts.specs.declared.report.Output.{Output}
+use Rattle.command_parts.specs.declared.report.Report.{Report}
+use Rattle.command_parts.specs.declared.status.Status.{Status}
+use Rattle.command_parts.specs.declared.status.Status.TheVariants as status
+use Rattle.command_parts.proofs.Ends.{adds_none, ends_as, judging}
+use Rattle.command_parts.proofs.EndsStored.{ends_stored}
+use Rattle.command_parts.proofs.Words.{apart, texts_from}
 use Rattle.journal_commands.specs.DisksSeen.{DiskSeen, if_told, with_disk}
 use Rattle.journal_commands.specs.Founding.{EndsFounding}
 use Rattle.journal_commands.specs.JournalAnswers.{making_answer}

@@ -4,14 +4,15 @@ use Rattle.core_terms.specs.ProgramFormats.{format_with}
 use Rattle.core_terms.specs.Types.{UnitTy}
 use Rattle.core_terms.specs.declared.format.Format.TheVariants.{First}
 use Rattle.lam_outside.specs.Told.{Contents}
-use Rattle.file_commands.specs.Answer.{Founding}
-use Rattle.file_commands.specs.FileInputs.{with_image_bytes, with_program_file}
-use Rattle.file_commands.specs.AnswerForms.{Answer}
-use Rattle.file_commands.specs.FueledRoles.{NamedProgram}
-use Rattle.file_commands.specs.Halting.{HaltsAs}
-use Rattle.file_commands.specs.declared.report.Halt.{Halt}
+use Rattle.command_parts.specs.Answer.{Founding}
+use Rattle.command_parts.specs.FileInputs.{with_image_bytes, with_program_file}
+use Rattle.command_parts.specs.AnswerForms.{Answer}
+use Rattle.command_parts.specs.FueledRoles.{NamedProgram}
+use Rattle.command_parts.specs.Halting.{HaltsAs}
+use Rattle.command_parts.specs.declared.report.Halt.{Halt}
 use Rattle.journal_commands.specs.DisksSeen.{DiskSeen, file_in}
-use Rattle.journal_commands.specs.Founding.{LeavesOn, MeansFounding, founding_of}
+use Rattle.journal_commands.specs.Founding.{MeansFounding}
+use Rattle.journal_commands.specs.FoundingInCode.{LeavesOn, founding_of}
 use Rattle.journal_commands.specs.JournalAnswers.{making_answer}
 use Rattle.journal_commands.specs.Works.{FindsMade}
 use Rattle.journal_commands.specs.declared.stop.DiskStop.{DiskStop}

@@ -16,10 +16,10 @@ use Rattle.version_journal.specs.declared.fault.DiskCount.TheVariants.{Reads, Wr
 use Rattle.version_journal.specs.declared.fault.JournalFault.{JournalFault}
 use Rattle.version_journal.specs.declared.fault.JournalFault.TheVariants as fault
 use Rattle.version_journal.specs.declared.opening.Opened.{Opened}
-use Rattle.file_commands.specs.AnswerForms.{Answer}
-use Rattle.file_commands.specs.FueledRoles.{DigestedProgram}
-use Rattle.file_commands.specs.Storing.{FindsOutput}
-use Rattle.file_commands.specs.declared.report.Output.{Output}
+use Rattle.command_parts.specs.AnswerForms.{Answer}
+use Rattle.command_parts.specs.FueledRoles.{DigestedProgram}
+use Rattle.command_parts.specs.Storing.{FindsOutput}
+use Rattle.command_parts.specs.declared.report.Output.{Output}
 use Rattle.journal_commands.specs.DisksSeen.{DiskSeen, file_in}
 use Rattle.journal_commands.specs.JournalAnswers.{journal_read, with_journal, with_kept}
 use Rattle.journal_commands.specs.OpenedJournals.{KeepsNow, OpensNamed}

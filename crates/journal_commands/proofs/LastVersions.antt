@@ -26,9 +26,9 @@ use Rattle.value_store.specs.Stores.{nodes_in}
 use Rattle.value_store.specs.declared.node.Ref.{Ref}
 use Rattle.value_store.specs.declared.store.Store.{Store}
 use Rattle.value_store.proofs.ProverNodes.{shown_ideal}
-use Rattle.file_commands.specs.AnswerForms.{says}
-use Rattle.file_commands.specs.declared.status.Status.TheVariants.{Done}
-use Rattle.file_commands.proofs.MarkedStates.{saved_by_types}
+use Rattle.command_parts.specs.AnswerForms.{says}
+use Rattle.command_parts.specs.declared.status.Status.TheVariants.{Done}
+use Rattle.command_parts.proofs.MarkedStates.{saved_by_types}
 use Rattle.journal_commands.specs.JournalAnswers.{last_of}
 
 module _ (code : Code) (shared : Shared) (same : meant.Shared) (shares : Shares sha256 (program_of code) shared same) where

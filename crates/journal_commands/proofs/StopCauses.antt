@@ -2,9 +2,9 @@
 use Rattle.std.proofs.Common.{◌≡◌, ◌+◌, ℕ, inl, inr, Result, Ok, Err, IsErrAnd, sym, ap, ap₂, subst, arith}
 use Rattle.lam_outside.specs.Causes.{Rose}
 use Rattle.printed_lines.specs.declared.refusal.Refusal.TheVariants as refusal
-use Rattle.file_commands.specs.Halting.{MayHalt}
-use Rattle.file_commands.specs.declared.report.Halt.{Halt}
-use Rattle.file_commands.specs.declared.report.Halt.TheVariants.{Usage, Refused, ReadFault, NoMemory}
+use Rattle.command_parts.specs.Halting.{MayHalt}
+use Rattle.command_parts.specs.declared.report.Halt.{Halt}
+use Rattle.command_parts.specs.declared.report.Halt.TheVariants.{Usage, Refused, ReadFault, NoMemory}
 use Rattle.journal_commands.specs.Stops.{DiskCause, WorkCause}
 use Rattle.journal_commands.specs.declared.stop.DiskStop.{DiskStop}
 use Rattle.journal_commands.specs.declared.stop.DiskStop.TheVariants.{Halts, WriteFault}

@@ -1,9 +1,9 @@
 -- Which counts may have risen in a run on a disk, by the status.
-use Rattle.std.specs.Prelude.{◌≡◌, ◌⊎◌, ℕ}
+use Rattle.std.specs.Prelude.{◌≡◌, ◌⊎◌}
 use Rattle.lam_outside.specs.Causes.{Rose}
-use Rattle.file_commands.specs.Outsides.{Outside}
-use Rattle.file_commands.specs.declared.status.Status.{Status}
-use Rattle.file_commands.specs.declared.status.Status.TheVariants.{ReadFault, WriteFault, NoMemory}
+use Rattle.command_parts.specs.Outsides.{Outside}
+use Rattle.command_parts.specs.declared.status.Status.{Status}
+use Rattle.command_parts.specs.declared.status.Status.TheVariants.{ReadFault, WriteFault, NoMemory}
 use Rattle.journal_commands.specs.DisksSeen.{DiskSeen}
 
 -- That of reading files or of the disk rose at `ReadFault`; that of the sink, of `store` or of writing the disk at `WriteFault`. None of writing rose at

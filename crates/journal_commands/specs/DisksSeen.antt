@@ -1,8 +1,8 @@
 -- What a disk tells beside files and a sink.
-use Rattle.std.specs.Prelude.{◌≡◌, ◌⊎◌, ℕ, ◌+◌, List, [], ◌∷◌, Option, Some, None, unwrap_or}
-use Rattle.lam_outside.specs.Disks.{Chooses, Moments, settled}
+use Rattle.std.specs.Prelude.{◌≡◌, ◌⊎◌, ℕ, ◌+◌, List, [], Option, Some, None, unwrap_or}
+use Rattle.lam_outside.specs.Disks.{Chooses, Moments}
 use Rattle.lam_outside.specs.Told.{Contents}
-use Rattle.file_commands.specs.Outsides.{Outside}
+use Rattle.command_parts.specs.Outsides.{Outside}
 use Rattle.version_journal.specs.Gates.{ForTold}
 use Rattle.version_journal.specs.Synced.{IsSynced}
 

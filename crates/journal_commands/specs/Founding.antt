@@ -1,22 +1,19 @@
 -- How `found` ends.
-use Rattle.std.specs.Prelude.{◌≡◌, ◌⊎◌, ℕ, List, [], ◌∷◌, Option, Result, Ok, Err}
+use Rattle.std.specs.Prelude.{◌≡◌, ◌⊎◌, ℕ, List, [], ◌∷◌, Option}
 use Rattle.std.specs.Option.{ForSome}
 use Rattle.lam_outside.specs.Disks.{Moments}
 use Rattle.lam_outside.specs.Told.{Contents}
 use Rattle.version_journal.specs.KeptBytes.{HasBytes, HasNone}
 use Rattle.version_journal.specs.Gates.{AtLast, IsKept}
 use Rattle.version_journal.specs.Journals.{journal_front}
-use Rattle.file_commands.specs.Answer.{Founding, with_founding}
-use Rattle.file_commands.specs.AnswerForms.{Answer}
-use Rattle.file_commands.specs.Ending.{EndsAs}
-use Rattle.file_commands.specs.Outsides.{Outside}
-use Rattle.file_commands.specs.FueledRoles.{DigestedProgram}
-use Rattle.file_commands.specs.declared.status.Status.{Status}
-use Rattle.file_commands.specs.declared.status.Status.TheVariants.{Done, WriteFault}
+use Rattle.command_parts.specs.Answer.{Founding, with_founding}
+use Rattle.command_parts.specs.AnswerForms.{Answer}
+use Rattle.command_parts.specs.Ending.{EndsAs}
+use Rattle.command_parts.specs.Outsides.{Outside}
+use Rattle.command_parts.specs.declared.status.Status.{Status}
+use Rattle.command_parts.specs.declared.status.Status.TheVariants.{Done, WriteFault}
 use Rattle.journal_commands.specs.DisksSeen.{DiskSeen, FromChosen, file_on, with_disk}
 use Rattle.journal_commands.specs.JournalAnswers.{founded_answer}
-use Rattle.journal_commands.specs.declared.stop.DiskStop.{DiskStop}
-use Rattle.journal_commands.specs.declared.stop.DiskStop.TheVariants.{Halts, WriteFault as StopsWriting}
 
 -- The file that was chosen, by the status. Where the journal was made it had no bytes, and now it is a journal of the image without commits, which every
 -- crash leaves. Else it is as it was, but that where a write failed nothing is said of a file that had no bytes.
@@ -29,16 +26,6 @@ LeavesFile f status old new = new ≡ old
 abbrev pub LeavesDisk : Founding → (name : List ℕ) → (disk disk' : DiskSeen) → Status → Type 0
 LeavesDisk f name disk disk' Done = FromChosen name disk disk' (LeavesFile f Done)
 LeavesDisk f name disk disk' status = (disk'.moments ≡ disk.moments) ⊎ FromChosen name disk disk' (LeavesFile f status)
-
--- a journal of this program and image
-abbrev pub founding_of : DigestedProgram → List ℕ → Founding
-founding_of p image = record { program = p; image = image }
-
--- what the work left on the disk, by what it came to
-abbrev pub LeavesOn : Founding → (name : List ℕ) → (disk disk' : DiskSeen) → Result (Unit {0}) DiskStop → Type 0
-LeavesOn f name disk disk' (Ok done) = FromChosen name disk disk' (LeavesFile f Done)
-LeavesOn f name disk disk' (Err (Halts halt)) = (disk'.moments ≡ disk.moments) ⊎ FromChosen name disk disk' (λ old new. new ≡ old)
-LeavesOn f name disk disk' (Err StopsWriting) = (disk'.moments ≡ disk.moments) ⊎ FromChosen name disk disk' (LeavesFile f WriteFault)
 
 -- these files and words mean this journal
 abbrev pub MeansFounding : (program image : List ℕ) → Contents → Founding → Type 0

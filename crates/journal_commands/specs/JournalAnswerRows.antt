@@ -17,16 +17,17 @@ use Rattle.version_journal.specs.JournalRows.{gated, flip, new_journal, own, tru
 use Rattle.version_journal.specs.Journals as journals
 use Rattle.version_journal.specs.declared.fault.DiskCount.TheVariants.{Reads, Writes}
 use Rattle.version_journal.specs.declared.fault.JournalFault.TheVariants as fault
-use Rattle.file_commands.specs.Answer.{Founding}
-use Rattle.file_commands.specs.AnswerForms.{Answer}
-use Rattle.file_commands.specs.Outsides.{Outside}
-use Rattle.file_commands.specs.FueledRoles.{DigestedProgram}
-use Rattle.file_commands.specs.declared.report.Halt.TheVariants.{Usage, Refused, ReadFault, NoMemory}
-use Rattle.file_commands.specs.declared.status.Status.{Status}
-use Rattle.file_commands.specs.declared.status.Status.TheVariants as status
+use Rattle.command_parts.specs.Answer.{Founding}
+use Rattle.command_parts.specs.AnswerForms.{Answer}
+use Rattle.command_parts.specs.Outsides.{Outside}
+use Rattle.command_parts.specs.FueledRoles.{DigestedProgram}
+use Rattle.command_parts.specs.declared.report.Halt.TheVariants.{Usage, Refused, ReadFault, NoMemory}
+use Rattle.command_parts.specs.declared.status.Status.{Status}
+use Rattle.command_parts.specs.declared.status.Status.TheVariants as status
 use Rattle.journal_commands.specs.DiskCounts.{DiskCountsBy}
 use Rattle.journal_commands.specs.DisksSeen.{DiskSeen, FromChosen, WritesNothing, file_in, if_told, with_disk}
-use Rattle.journal_commands.specs.Founding.{EndsFounding, LeavesDisk, LeavesFile, LeavesOn, founding_of}
+use Rattle.journal_commands.specs.Founding.{EndsFounding, LeavesDisk, LeavesFile}
+use Rattle.journal_commands.specs.FoundingInCode.{LeavesOn, founding_of}
 use Rattle.journal_commands.specs.JournalAnswers.{founded_answer, journal_kind, journal_read, last_of, making_answer, replayed_answer, with_journal, with_kept}
 use Rattle.journal_commands.specs.OpenedJournals.{KeepsNow, OpensNamed}
 use Rattle.journal_commands.specs.Replaying.{EndsReplaying}

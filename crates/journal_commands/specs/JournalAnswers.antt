@@ -9,13 +9,13 @@ use Rattle.printed_lines.specs.declared.refusal.JournalKind.TheVariants as kind
 use Rattle.session_meaning.specs.Server.{Shared, version_at}
 use Rattle.version_journal.specs.Journals.{Faulty, Holds, Journal, JournalFault, journal_of}
 use Rattle.version_journal.specs.Journals as journals
-use Rattle.file_commands.specs.Answer.{with_founding}
-use Rattle.file_commands.specs.OutcomeAnswers.{storing}
-use Rattle.file_commands.specs.FileInputs.{image_kind, with_program_file}
-use Rattle.file_commands.specs.AnswerForms.{Answer, says}
-use Rattle.file_commands.specs.RefusedAnswers.{input_refused}
-use Rattle.file_commands.specs.FueledRoles.{DigestedProgram}
-use Rattle.file_commands.specs.declared.status.Status.TheVariants.{Done}
+use Rattle.command_parts.specs.Answer.{with_founding}
+use Rattle.command_parts.specs.OutcomeAnswers.{storing}
+use Rattle.command_parts.specs.FileInputs.{image_kind, with_program_file}
+use Rattle.command_parts.specs.AnswerForms.{Answer, says}
+use Rattle.command_parts.specs.RefusedAnswers.{input_refused}
+use Rattle.command_parts.specs.FueledRoles.{DigestedProgram}
+use Rattle.command_parts.specs.declared.status.Status.TheVariants.{Done}
 
 -- why the bytes of a journal are refused
 abbrev pub journal_kind : JournalFault → JournalKind

@@ -7,3 +7,4 @@ pub mod DiskCounts
 pub mod Founding
 pub mod Replaying
 pub mod JournalAnswerRows
+pub mod FoundingInCode

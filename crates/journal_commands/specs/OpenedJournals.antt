@@ -9,9 +9,9 @@ use Rattle.version_journal.specs.Journals.{Holds, journal_front, journal_of}
 use Rattle.version_journal.specs.Openings.{Stands}
 use Rattle.version_journal.specs.Synced.{IsSynced}
 use Rattle.version_journal.specs.declared.opening.Opened.{Opened}
-use Rattle.file_commands.specs.AnswerForms.{Answer}
-use Rattle.file_commands.specs.FueledRoles.{DigestedProgram}
-use Rattle.file_commands.specs.Halting.{HaltsAs}
+use Rattle.command_parts.specs.AnswerForms.{Answer}
+use Rattle.command_parts.specs.FueledRoles.{DigestedProgram}
+use Rattle.command_parts.specs.Halting.{HaltsAs}
 use Rattle.journal_commands.specs.DisksSeen.{DiskSeen, FromChosen, file_in}
 use Rattle.journal_commands.specs.JournalAnswers.{with_journal}
 use Rattle.journal_commands.specs.declared.stop.DiskStop.{DiskStop}

@@ -1,8 +1,8 @@
 -- How `replay` ends.
 use Rattle.std.specs.Prelude.{ℕ, List, [], ◌∷◌}
-use Rattle.file_commands.specs.Ending.{EndsAs}
-use Rattle.file_commands.specs.Outsides.{Outside}
-use Rattle.file_commands.specs.declared.status.Status.{Status}
+use Rattle.command_parts.specs.Ending.{EndsAs}
+use Rattle.command_parts.specs.Outsides.{Outside}
+use Rattle.command_parts.specs.declared.status.Status.{Status}
 use Rattle.journal_commands.specs.DisksSeen.{DiskSeen, WritesNothing, file_on, with_disk}
 use Rattle.journal_commands.specs.JournalAnswers.{replayed_answer}
 

@@ -1,11 +1,10 @@
 -- How the faults of a journal end the work of a command, and which counts of faults rose.
-use Rattle.std.specs.Prelude.{◌≡◌, ◌⊎◌, ℕ, Result, Ok, Err}
-use Rattle.file_commands.specs.declared.report.Halt.{Halt}
-use Rattle.file_commands.specs.declared.report.Halt.TheVariants.{Usage, Refused, ReadFault, NoMemory}
+use Rattle.std.specs.Prelude.{◌≡◌, ◌⊎◌, ℕ, Option, Some, None, Result, Ok, Err}
+use Rattle.command_parts.specs.Halting.{image_kind}
+use Rattle.command_parts.specs.declared.report.Halt.TheVariants.{Usage, Refused, ReadFault, NoMemory}
 use Rattle.images.specs.declared.fault.ImageFault.{ImageFault}
-use Rattle.images.specs.declared.fault.ImageFault.TheVariants as image_fault
 use Rattle.lam_outside.specs.Causes.{Rose}
-use Rattle.printed_lines.specs.declared.refusal.ImageKind.TheVariants as image
+use Rattle.printed_lines.specs.declared.refusal.ImageKind.{ImageKind}
 use Rattle.printed_lines.specs.declared.refusal.InputFault.TheVariants as input_fault
 use Rattle.printed_lines.specs.declared.refusal.JournalKind.{JournalKind}
 use Rattle.printed_lines.specs.declared.refusal.JournalKind.TheVariants as kind
@@ -20,16 +19,13 @@ use Rattle.journal_commands.specs.declared.stop.DiskStop.TheVariants.{Halts, Wri
 abbrev pub of_kind : JournalKind → DiskStop
 of_kind k = Halts (Refused (refusal.Input (input_fault.Journal k)))
 
+-- its image is, or memory was wanting for it
+abbrev pub of_image_kind : Option ImageKind → DiskStop
+of_image_kind (Some image) = of_kind (kind.Image image)
+of_image_kind None = Halts NoMemory
+
 abbrev pub of_image_fault : ImageFault → DiskStop
-of_image_fault image_fault.Magic = of_kind (kind.Image image.Magic)
-of_image_fault (image_fault.Cut bytes) = of_kind (kind.Image (image.Cut bytes))
-of_image_fault image_fault.OtherProgram = of_kind (kind.Image image.OtherProgram)
-of_image_fault (image_fault.BadRecord number) = of_kind (kind.Image (image.BadRecord number))
-of_image_fault (image_fault.TooBig number) = of_kind (kind.Image (image.TooBig number))
-of_image_fault (image_fault.TooDeep number) = of_kind (kind.Image (image.TooDeep number))
-of_image_fault image_fault.RootType = of_kind (kind.Image image.RootType)
-of_image_fault (image_fault.Leftover bytes) = of_kind (kind.Image (image.Leftover bytes))
-of_image_fault image_fault.NoMemory = Halts NoMemory
+of_image_fault fault = of_image_kind (image_kind fault)
 
 abbrev pub of_journal_fault : JournalFault → DiskStop
 of_journal_fault fault.NotEmpty = of_kind kind.NotEmpty

@@ -1,9 +1,9 @@
 -- What the work of a command on a disk found, before it is told.
 use Rattle.std.specs.Prelude.{◌≡◌, List, [], ℕ, Option, Some, Result, Ok, Err, ⊤}
-use Rattle.file_commands.specs.AnswerForms.{Answer}
-use Rattle.file_commands.specs.Halting.{HaltsAs}
-use Rattle.file_commands.specs.Storing.{FindsOutput}
-use Rattle.file_commands.specs.declared.report.Output.{Output}
+use Rattle.command_parts.specs.AnswerForms.{Answer}
+use Rattle.command_parts.specs.Halting.{HaltsAs}
+use Rattle.command_parts.specs.Storing.{FindsOutput}
+use Rattle.command_parts.specs.declared.report.Output.{Output}
 use Rattle.journal_commands.specs.JournalAnswers.{making_answer}
 use Rattle.journal_commands.specs.declared.stop.DiskStop.{DiskStop}
 use Rattle.journal_commands.specs.declared.stop.DiskStop.TheVariants.{Halts, WriteFault}

@@ -1,25 +1,27 @@
 // The command `found`.
 ghost use Rattle.std.specs.Prelude.{◌≡◌, ◌⊎◌, ◌≤◌, OnOk, Some, length};
 ghost use Rattle.std.specs.Option.{ForSome};
+ghost use Rattle.core_terms.specs.Limits.{most_file_bytes};
 ghost use Rattle.command_words.specs.Commands.{texts};
 ghost use Rattle.command_words.specs.declared.command.Command.TheVariants.{Found};
 ghost use Rattle.code_gen.specs.Programs.{program_in};
-ghost use Rattle.file_commands.specs.Answer.{Founding, answer_with, unfounded_answer};
-ghost use Rattle.file_commands.specs.FileInputs.{max_file};
-ghost use Rattle.file_commands.specs.Outsides.{outside};
-ghost use Rattle.file_commands.specs.ReadPrograms.{digested_of};
-ghost use Rattle.file_commands.specs.Reaching.{IsReached};
-ghost use Rattle.file_commands.specs.Statuses.{MayAnswer};
+ghost use Rattle.command_parts.specs.Answer.{Founding, answer_with};
+ghost use Rattle.command_parts.specs.UnansweredInCode.{unfounded_answer};
+ghost use Rattle.command_parts.specs.Outsides.{outside};
+ghost use Rattle.command_parts.specs.ReadPrograms.{digested_of};
+ghost use Rattle.command_parts.specs.Reaching.{IsReached};
+ghost use Rattle.command_parts.specs.Statuses.{MayAnswer};
 ghost use Rattle.journal_commands.specs.DiskCounts.{DiskCountsBy};
 ghost use Rattle.journal_commands.specs.DisksSeen.{disk_seen, file_in, if_told};
-ghost use Rattle.journal_commands.specs.Founding.{EndsFounding, LeavesOn, MeansFounding, founding_of};
+ghost use Rattle.journal_commands.specs.Founding.{EndsFounding, MeansFounding};
+ghost use Rattle.journal_commands.specs.FoundingInCode.{LeavesOn, founding_of};
 ghost use Rattle.journal_commands.specs.JournalAnswers.{founded_answer, making_answer};
 ghost use Rattle.journal_commands.specs.Stops.{DiskCause, WorkCause};
 ghost use Rattle.journal_commands.specs.Works.{FindsMade};
 
 use crate::stop::DiskStop;
 use code_gen::Code;
-use file_commands::{Halt, Status, load_image_bytes, read_code, tell};
+use command_parts::{Halt, Status, load_image_bytes, read_code, tell};
 use lam_outside::{Disk, Failed, Files, Sink};
 use std::alloc::Global;
 use version_journal::make;
@@ -80,7 +82,7 @@ fn make_named<D: Disk>(
     name: &str,
     image: &[u8],
 ) -> Result<(), DiskStop>
-    requires { length image.now ≤ max_file }
+    requires { length image.now ≤ most_file_bytes }
     ensures finds { ForSome (D.contents disk.old) (λ told. FindsMade (Some (making_answer (file_in (Some told) name.now))) result) }
     ensures left { let on = disk_seen D.contents D.moments D.read_faults D.write_faults in
         LeavesOn (founding_of (digested_of (program_in code.now)) image.now) name.now (on disk.old) (on disk.new) result }

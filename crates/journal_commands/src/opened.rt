@@ -1,14 +1,14 @@
 // A journal that is opened by its name.
 ghost use Rattle.code_gen.specs.Programs.{program_in};
-ghost use Rattle.file_commands.specs.ReadPrograms.{digested_of};
+ghost use Rattle.command_parts.specs.ReadPrograms.{digested_of};
 ghost use Rattle.journal_commands.specs.DisksSeen.{WritesNothing, disk_seen};
 ghost use Rattle.journal_commands.specs.OpenedJournals.{OpensNamed};
 ghost use Rattle.journal_commands.specs.Stops.{DiskCause};
 
 use crate::stop::DiskStop;
 use code_gen::Code;
+use command_parts::Halt;
 use digest_layer::Sha;
-use file_commands::Halt;
 use lam_outside::{Disk, Failed};
 use std::alloc::Global;
 use version_journal::{Opened, open};

@@ -1,12 +1,12 @@
 // What ends the work of a command on a disk early.
 ghost use Rattle.std.specs.Prelude.{◌≡◌};
-ghost use Rattle.file_commands.specs.declared.report.Halt.TheVariants.{NoMemory};
+ghost use Rattle.command_parts.specs.declared.report.Halt.TheVariants.{NoMemory};
 ghost use Rattle.journal_commands.specs.Stops.{of_image_fault, of_journal_fault, of_kind};
 ghost use Rattle.journal_commands.specs.declared.stop.DiskStop.TheVariants.{Halts};
 
-use file_commands::Halt;
+use command_parts::{Halt, image_kind};
 use images::ImageFault;
-use printed_lines::refusal::{ImageKind, InputFault, JournalKind, Refusal};
+use printed_lines::refusal::{InputFault, JournalKind, Refusal};
 use std::alloc::AllocError;
 use version_journal::{DiskCount, JournalFault};
 
@@ -70,16 +70,8 @@ fn refused(kind: JournalKind) -> DiskStop
 fn image_stop(fault: ImageFault) -> DiskStop
     ensures { result ≡ of_image_fault fault }
 {
-    let kind = match fault {
-        ImageFault::Magic => ImageKind::Magic,
-        ImageFault::Cut(bytes) => ImageKind::Cut(bytes),
-        ImageFault::OtherProgram => ImageKind::OtherProgram,
-        ImageFault::BadRecord(number) => ImageKind::BadRecord(number),
-        ImageFault::TooBig(number) => ImageKind::TooBig(number),
-        ImageFault::TooDeep(number) => ImageKind::TooDeep(number),
-        ImageFault::RootType => ImageKind::RootType,
-        ImageFault::Leftover(bytes) => ImageKind::Leftover(bytes),
-        ImageFault::NoMemory => return DiskStop::Halts(Halt::NoMemory),
-    };
-    refused(JournalKind::Image(kind))
+    match image_kind(fault) {
+        Some(kind) => refused(JournalKind::Image(kind)),
+        None => DiskStop::Halts(Halt::NoMemory),
+    }
 }

@@ -1,7 +1,7 @@
 // A plain reader of journals of the program.
 
 use crate::stage::{FIRST, FUEL, digest};
-use core_terms::{Digest, Hash32};
+use core_terms::{Digest, Hash32, MOST_FUEL};
 use digest_layer::Sha;
 
 /// What a journal of the program is.
@@ -24,10 +24,8 @@ pub enum Reading {
 /// The number of the update among the roles.
 pub const UPDATE: u64 = 2;
 
-/// The least fuel of an update that ends, and the most that is allowed.
+/// The least fuel of an update that ends.
 const LEAST_FUEL: u64 = 1;
-
-const MOST_FUEL: u64 = 1_000_000_000_000;
 
 /// The most records.
 const MOST_RECORDS: u64 = 4_095;

@@ -32,7 +32,7 @@ pub fn code(alloc: Global) -> Result<Box<Code>, AllocError> {
     let Ok(ast) = parse(alloc, TEXT) else {
         return Err(AllocError);
     };
-    match check(alloc, ast, Sha::of(TEXT)) {
+    match check(alloc, &ast, Sha::of(TEXT)) {
         Ok(program) => Ok(Box::new(alloc, Code::generate(program, alloc)?)?),
         Err(_) => Err(AllocError),
     }

@@ -6,16 +6,13 @@ use ads_library::texts::BST;
 use auth_syntax::parser::parse;
 use auth_types::check::check;
 use code_gen::Code;
-use core_terms::{Hash32, RoleId, Spelling};
+use core_terms::{Hash32, MOST_PROGRAM_BYTES, RoleId, Spelling};
 use digest_layer::Sha;
 use host_disk::{HostDisk, StoppingDisk};
 use lam_outside::Disk;
 use session_turns::Commit;
 use std::alloc::{AllocError, Global};
 use version_journal::{Journal, JournalFault, make, open};
-
-/// The longest text of a program, in bytes.
-const MAX_PROGRAM: usize = 262_144;
 
 /// The fuel of each put.
 pub const FUEL: u64 = 1_000_000;
@@ -25,13 +22,13 @@ pub const PUT: usize = 2;
 
 /// The code of the library's search tree.
 pub fn code(alloc: Global) -> Result<Code, AllocError> {
-    if BST.len() > MAX_PROGRAM {
+    if BST.len() > MOST_PROGRAM_BYTES {
         return Err(AllocError);
     }
     let Ok(ast) = parse(alloc, BST) else {
         return Err(AllocError);
     };
-    match check(alloc, ast, Sha::of(BST)) {
+    match check(alloc, &ast, Sha::of(BST)) {
         Ok(program) => Code::generate(program, alloc),
         Err(_) => Err(AllocError),
     }

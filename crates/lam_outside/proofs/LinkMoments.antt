@@ -1,5 +1,5 @@
 -- The reads of a link in memory: for MemLink's `read` and `send`.
-use Rattle.std.proofs.Common.{◌≡◌, ◌∙◌, ◌≤◌, ℕ, zero, suc, Bool, true, false, List, [], ◌∷◌, ◌++◌, length, length-append, map, take, drop, Option, Some, None, refl, ap, sym, arith}
+use Rattle.std.proofs.Common.{◌≡◌, ◌∙◌, ◌≤◌, ℕ, zero, suc, Bool, true, false, List, [], ◌∷◌, ◌++◌, length, map, take, drop, Option, Some, None, refl, ap, sym, arith}
 use Rattle.std.specs.Prelude.{option_map}
 use Rattle.std.specs.List.{All}
 use Rattle.std.proofs.lemmas.List.{take-append-le, take_all, map-append}
@@ -28,9 +28,6 @@ pub told_kept : (forgot : Bool) (coming sent more : List ℕ) (reads : List Link
     → reads_told forgot coming (sent ++ more) reads ≡ reads_told forgot coming sent reads
 told_kept true coming sent more reads all = refl
 told_kept false coming sent more reads all = ap Some (moments_kept coming sent more reads all)
-
-pub sent_grown : (sent more : List ℕ) (reads : List LinkRead) → All (IsSentBy sent) reads → All (IsSentBy (sent ++ more)) reads
-sent_grown sent more reads all = λ k d within. let before = all k d within in let size = length-append sent more in omega arith
 
 all_behind : {X : Type 0} (P : X → Type 0) (xs : List X) (x : X) → All P xs → P x → All P (xs ++ x ∷ [])
 all_behind P [] x all here zero d within = here

@@ -6,7 +6,7 @@ ghost use Rattle.command_words.specs.Commands.{texts};
 
 use crate::net::HostNet;
 use auth_cli::run;
-use file_commands::{Halt, tell};
+use command_parts::{Halt, tell};
 use host_disk::HostDisk;
 use host_files::{HostFiles, HostSink};
 use std::alloc::AllocError;
@@ -85,7 +85,7 @@ fn run_on<R: Threads + Sync>(threads: &R, rt: &HostRuntime, words: &[&str]) -> R
 #[cfg(test)]
 mod tests {
     use super::ended;
-    use file_commands::Halt;
+    use command_parts::Halt;
     use host_files::HostFiles;
     use lam_outside::Files;
     use std::alloc::{AllocError, Global};

@@ -3,13 +3,10 @@ use auth_syntax::parser::parse;
 use auth_syntax::tree::Ast;
 use auth_types::check::check;
 use auth_types::fault::{TypeFault, TypeKind};
-use core_terms::{Digest, Program};
+use core_terms::{Digest, MOST_PROGRAM_BYTES, Program};
 use lexemes::fault::{SyntaxFault, SyntaxKind};
 use printed_syntax::print::print;
 use std::alloc::{AllocError, Global};
-
-/// The longest text of a program, in bytes.
-const MAX_PROGRAM: usize = 262_144;
 
 /// A fault of a text's syntax: its kind, its line and its column.
 pub type Fault = (SyntaxKind, usize, usize);
@@ -20,7 +17,7 @@ pub type Fault = (SyntaxKind, usize, usize);
 ///
 /// `AllocError` where memory runs out, or where the text is too long.
 pub fn fault_of(alloc: Global, text: &[u8]) -> Result<Option<Fault>, AllocError> {
-    if text.len() > MAX_PROGRAM {
+    if text.len() > MOST_PROGRAM_BYTES {
         return Err(AllocError);
     }
     match parse(alloc, text) {
@@ -36,7 +33,7 @@ pub fn fault_of(alloc: Global, text: &[u8]) -> Result<Option<Fault>, AllocError>
 ///
 /// As `fault_of`.
 pub fn printed(alloc: Global, text: &[u8]) -> Result<Option<Vec<u8>>, AllocError> {
-    if text.len() > MAX_PROGRAM {
+    if text.len() > MOST_PROGRAM_BYTES {
         return Err(AllocError);
     }
     match parse(alloc, text) {
@@ -52,7 +49,7 @@ pub fn printed(alloc: Global, text: &[u8]) -> Result<Option<Vec<u8>>, AllocError
 ///
 /// `AllocError` where memory runs out, or where the text is too long or the grammar refuses it.
 pub fn tree_of(alloc: Global, text: &[u8]) -> Result<Ast, AllocError> {
-    if text.len() > MAX_PROGRAM {
+    if text.len() > MOST_PROGRAM_BYTES {
         return Err(AllocError);
     }
     match parse(alloc, text) {
@@ -70,7 +67,7 @@ pub type Misfit = (TypeKind, usize, usize);
 ///
 /// As `tree_of`.
 pub fn misfit_of(alloc: Global, text: &[u8]) -> Result<Option<Misfit>, AllocError> {
-    match check(alloc, tree_of(alloc, text)?, Digest([7; 32])) {
+    match check(alloc, &tree_of(alloc, text)?, Digest([7; 32])) {
         Ok(_) => Ok(None),
         Err(TypeFault::At(kind, at)) => Ok(Some((kind, at.line, at.column))),
         Err(TypeFault::NoMemory) => Err(AllocError),
@@ -83,7 +80,7 @@ pub fn misfit_of(alloc: Global, text: &[u8]) -> Result<Option<Misfit>, AllocErro
 ///
 /// `AllocError` where memory runs out, or where the text is no program.
 pub fn program_of(alloc: Global, text: &[u8]) -> Result<Program, AllocError> {
-    match check(alloc, tree_of(alloc, text)?, Digest([7; 32])) {
+    match check(alloc, &tree_of(alloc, text)?, Digest([7; 32])) {
         Ok(program) => Ok(program),
         Err(_) => Err(AllocError),
     }

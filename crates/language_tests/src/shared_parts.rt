@@ -13,36 +13,20 @@ const LEVELS: usize = 600;
 /// The first level whose pairs have a text of more than 4,294,967,296 bytes: 6 * 2^30 - 4.
 const TOO_LONG: usize = 30;
 
-/// A program whose types are unit, and pairs of pairs of it.
-fn pair_program(alloc: Global) -> Result<Box<Program>, AllocError> {
+/// A program whose types are unit, and arrays or pairs, each of the one before it.
+fn level_program(alloc: Global, are_arrays: bool) -> Result<Box<Program>, AllocError> {
     let mut types = Box::new(alloc, TyTable::new(Format::Second, alloc))?;
     let mut last = types.intern(TyForm::UnitForm)?;
     for _level in 0..LEVELS {
-        let pair = TyForm::PairForm(last, last);
-        if !may_stand(&types, pair) {
+        let next = if are_arrays {
+            TyForm::VecForm(3, last)
+        } else {
+            TyForm::PairForm(last, last)
+        };
+        if !may_stand(&types, next) {
             return Err(AllocError);
         }
-        last = types.intern(pair)?;
-    }
-    program_of(
-        Box::into_inner(types),
-        Vec::new(alloc),
-        TyId(0),
-        Vec::new(alloc),
-        alloc,
-    )
-}
-
-/// A program whose types are unit, and arrays of arrays of it.
-fn array_program(alloc: Global) -> Result<Box<Program>, AllocError> {
-    let mut types = Box::new(alloc, TyTable::new(Format::Second, alloc))?;
-    let mut last = types.intern(TyForm::UnitForm)?;
-    for _level in 0..LEVELS {
-        let array = TyForm::VecForm(3, last);
-        if !may_stand(&types, array) {
-            return Err(AllocError);
-        }
-        last = types.intern(array)?;
+        last = types.intern(next)?;
     }
     program_of(
         Box::into_inner(types),
@@ -71,8 +55,8 @@ fn printed_length(alloc: Global, program: &Program, level: usize) -> Option<usiz
 
 #[test]
 fn short_texts_are_printed(rt: HostRuntime) -> Result<(), Fail> {
-    let pairs = pair_program(rt.alloc())?;
-    let arrays = array_program(rt.alloc())?;
+    let pairs = level_program(rt.alloc(), false)?;
+    let arrays = level_program(rt.alloc(), true)?;
     let three = b"((((), ()), ((), ())), (((), ()), ((), ())))";
     let two = b"[[(), (), ()], [(), (), ()], [(), (), ()]]";
     if !is_printed(rt.alloc(), &pairs, 3, three) || !is_printed(rt.alloc(), &arrays, 2, two) {
@@ -87,8 +71,8 @@ fn short_texts_are_printed(rt: HostRuntime) -> Result<(), Fail> {
 /// Each text here would have more than 2^32 bytes, and most more than a memory could ever hold.
 #[test]
 fn long_texts_are_refused_at_once(rt: HostRuntime) -> Result<(), Fail> {
-    let pairs = pair_program(rt.alloc())?;
-    let arrays = array_program(rt.alloc())?;
+    let pairs = level_program(rt.alloc(), false)?;
+    let arrays = level_program(rt.alloc(), true)?;
     for level in [TOO_LONG, 40, 64, 512, LEVELS] {
         if printed_length(rt.alloc(), &pairs, level).is_some() {
             return Err(Fail::new(format_args!("pairs at {level}")));

@@ -1,5 +1,5 @@
 -- Reading as a function: what is found at the head of some tokens, or the first fault.
-use Rattle.std.specs.Prelude.{Bool, true, false, bytes_eq, if◌then◌else◌}
+use Rattle.std.specs.Prelude.{Bool, true, false, bytes_eq, if◌then◌else◌, ℕ, List}
 use Rattle.core_terms.specs.declared.fault.Fault.{Fault}
 use Rattle.lexemes.specs.declared.place.Place.{Place}
 use Rattle.lexemes.specs.declared.token.Keyword.{Keyword}
@@ -7,7 +7,7 @@ use Rattle.lexemes.specs.declared.token.Mark.{Mark}
 use Rattle.lexemes.specs.declared.token.Mark.TheVariants.{LeftParenthesis, RightParenthesis, Comma, Semicolon, Colon, EqualsSign, Bar, Arrow, LeftBracket, RightBracket}
 use Rattle.lexemes.specs.declared.fault.SyntaxKind.{SyntaxKind}
 use Rattle.lexemes.specs.declared.fault.SyntaxKind.TheVariants.{Lexical, Expected}
-use Rattle.lexemes.specs.Tokens.{KeywordToken, MarkToken, Tokens, Next, End, Faulty, keyword_text}
+use Rattle.lexemes.specs.Tokens.{KeywordToken, MarkToken, Tokens, Next, End, Faulty, keyword_text, LowerToken}
 
 -- a fault of a text as the code tells it, or want of memory
 abbrev pub SyntaxFault : Type 0
@@ -60,3 +60,20 @@ abbrev pub read_separator : Tokens → Reading Bool
 read_separator (Next at (MarkToken Comma) rest) = Found true rest
 read_separator (Next at (MarkToken RightParenthesis) rest) = Found false rest
 read_separator tokens = refused tokens
+
+-- the end of the text, where nothing else is left
+abbrev pub read_end : Tokens → Reading (Unit {0})
+read_end (Next at token rest) = FaultAt Expected at
+read_end (End at) = Found tt (End at)
+read_end (Faulty at kind) = FaultAt (Lexical kind) at
+
+-- whether this lower name stands at the head; where it does, it is taken
+abbrev pub read_if_lower : List ℕ → Tokens → Reading Bool
+read_if_lower wanted (Next at (LowerToken found) rest) =
+    if bytes_eq found wanted then Found true rest else Found false (Next at (LowerToken found) rest)
+read_if_lower wanted tokens = Found false tokens
+
+-- whether this mark stands at the head; where it does, it is taken
+abbrev pub read_if_mark : Mark → Tokens → Reading Bool
+read_if_mark wanted (Next at (MarkToken found) rest) = if is_mark wanted found then Found true rest else Found false (Next at (MarkToken found) rest)
+read_if_mark wanted tokens = Found false tokens

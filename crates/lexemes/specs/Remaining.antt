@@ -1,10 +1,8 @@
 -- The tokens that a parser has still to read, and what its answers say of what a definition finds. Where memory ran out nothing is said.
-use Rattle.std.specs.Prelude.{◌≡◌, ℕ, Bool, true, false, List, bytes_eq, Result, Ok, Err, ⊤, if◌then◌else◌}
-use Rattle.lexemes.specs.declared.token.Mark.{Mark}
-use Rattle.lexemes.specs.Tokens.{MarkToken, LowerToken, Tokens, Next, End, Faulty}
+use Rattle.std.specs.Prelude.{◌≡◌, Result, Ok, Err, ⊤}
+use Rattle.lexemes.specs.Tokens.{Tokens, Next, End, Faulty}
 use Rattle.lexemes.specs.TokenViews.{token_view, tokens_left}
-use Rattle.lexemes.specs.Readings.{Reading, Found, FaultAt, is_mark}
-use Rattle.lexemes.specs.Readings.{SyntaxFault}
+use Rattle.lexemes.specs.Readings.{Reading, Found, FaultAt, SyntaxFault}
 use Rattle.core_terms.specs.declared.fault.Fault.TheVariants.{At, NoMemory}
 use Rattle.lexemes.specs.declared.fault.SyntaxKind.TheVariants.{Lexical, Expected, TooNested}
 use Rattle.lexemes.specs.declared.parser.Parser.{Parser}
@@ -26,20 +24,3 @@ abbrev pub Reads : {A B : Type 0} → (A → B) → Reading B → Result A Synta
 Reads view reading (Ok value) rest = reading ≡ Found (view value) rest
 Reads view reading (Err (At kind at)) rest = reading ≡ FaultAt kind at
 Reads view reading (Err NoMemory) rest = ⊤
-
--- the end of the text, where nothing else is left
-abbrev pub read_end : Tokens → Reading (Unit {0})
-read_end (Next at token rest) = FaultAt Expected at
-read_end (End at) = Found tt (End at)
-read_end (Faulty at kind) = FaultAt (Lexical kind) at
-
--- whether this lower name stands at the head; where it does, it is taken
-abbrev pub read_if_lower : List ℕ → Tokens → Reading Bool
-read_if_lower wanted (Next at (LowerToken found) rest) =
-    if bytes_eq found wanted then Found true rest else Found false (Next at (LowerToken found) rest)
-read_if_lower wanted tokens = Found false tokens
-
--- whether this mark stands at the head; where it does, it is taken
-abbrev pub read_if_mark : Mark → Tokens → Reading Bool
-read_if_mark wanted (Next at (MarkToken found) rest) = if is_mark wanted found then Found true rest else Found false (Next at (MarkToken found) rest)
-read_if_mark wanted tokens = Found false tokens

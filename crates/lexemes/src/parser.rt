@@ -30,7 +30,8 @@ pub struct Parser<'a> {
 
 impl<'a> Parser<'a> {
     ghost use Rattle.std.specs.Prelude.{◌≡◌};
-    ghost use Rattle.lexemes.specs.Remaining.{read_end, read_if_lower, read_if_mark, remaining, TakesToken};
+    ghost use Rattle.lexemes.specs.Remaining.{remaining, TakesToken};
+    ghost use Rattle.lexemes.specs.Readings.{read_end, read_if_lower, read_if_mark};
 
     /// The parser before a text of a format.
     pub fn new(alloc: Global, format: Format, text: &'a [u8]) -> Self

@@ -26,7 +26,7 @@ fn read(alloc: Global, text: &[u8]) -> Result<Program, AllocError>
     ensures { IfOk result (λ p. program_read text.now ≡ Some (meaning p)) }
 {
     match parse(alloc, text) {
-        Ok(ast) => match check(alloc, ast, Digest([0; 32])) {
+        Ok(ast) => match check(alloc, &ast, Digest([0; 32])) {
             Ok(program) => Ok(program),
             Err(_) => Err(AllocError),
         },

@@ -2,9 +2,9 @@
 use Rattle.std.proofs.Common.{◌≡◌, ℕ, Bool, true, false, ◌||◌, Ok, Err, refl, subst, ◌∙◌, arith}
 use Rattle.lam_outside.specs.Causes.{Rose}
 use Rattle.link_ends.specs.EndCauses.{LinkCause}
-use Rattle.link_ends.specs.Halts.{HaltCause}
-use Rattle.link_ends.specs.declared.halt.Halt.{Halt}
-use Rattle.link_ends.specs.declared.halt.Halt.TheVariants as halt
+use Rattle.link_ends.specs.LinkStops.{LinkStopCause}
+use Rattle.link_ends.specs.declared.link_stop.LinkStop.{LinkStop}
+use Rattle.link_ends.specs.declared.link_stop.LinkStop.TheVariants as link_stop
 
 -- a count that rose, or that stayed
 abbrev pub IsFaultTold : (link_fault : Bool) → (before now : ℕ) → Type 0
@@ -30,5 +30,5 @@ pub or_others : (a b c : Bool) → ((a || b) || c) ≡ (a || (b || c))
 or_others true b c = refl
 or_others false b c = refl
 
-pub rose_at : (T : Type 0) (before now : ℕ) (stop : Halt) → stop ≡ halt.LinkFault → HaltCause {T = T} before now (Err stop) → Rose before now
-rose_at T before now stop is cause = let Of : Halt → Type 0 = λ stop. HaltCause {T = T} before now (Err stop) in subst Of is cause
+pub rose_at : (T : Type 0) (before now : ℕ) (stop : LinkStop) → stop ≡ link_stop.LinkFault → LinkStopCause {T = T} before now (Err stop) → Rose before now
+rose_at T before now stop is cause = let Of : LinkStop → Type 0 = λ stop. LinkStopCause {T = T} before now (Err stop) in subst Of is cause

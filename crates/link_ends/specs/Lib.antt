@@ -1,4 +1,4 @@
-pub mod Halts
+pub mod LinkStops
 pub mod Ends
 pub mod MoreLinks
 pub mod Rows

@@ -6,11 +6,11 @@ use Rattle.lam_outside.specs.Links.{Linked}
 use Rattle.wire_form.specs.declared.message.WriteStop.TheVariants as write
 use Rattle.link_ends.specs.Ends.{is_fault}
 use Rattle.link_ends.specs.EndCauses.{EndCause, LinkCause, ServingCause}
-use Rattle.link_ends.specs.Halts.{HaltCause, halt_of}
+use Rattle.link_ends.specs.LinkStops.{LinkStopCause, link_stop_of}
 use Rattle.link_ends.specs.MoreLinks.{AreMore, TakesBytes, bytes_on}
 use Rattle.link_ends.specs.declared.end.ConnectionEnd.TheVariants as connection
 use Rattle.link_ends.specs.declared.end.ServingEnd.TheVariants.{Served, Stopped}
-use Rattle.link_ends.specs.declared.halt.Halt.TheVariants as halt
+use Rattle.link_ends.specs.declared.link_stop.LinkStop.TheVariants as link_stop
 
 -- BYTES
 -- a front of the bytes was taken, and what is behind it is left
@@ -24,29 +24,29 @@ pub takes_none_untold : TakesBytes (1 ∷ []) (1 ∷ []) None → ⊥
 takes_none_untold (rest, all, left) = let e : None ≡ Some rest = left in cc (e)
 
 -- CAUSES
-pub stops : (halt_of write.LinkFault ≡ halt.LinkFault) × (halt_of write.NoMemory ≡ halt.Stopped)
+pub stops : (link_stop_of write.LinkFault ≡ link_stop.LinkFault) × (link_stop_of write.NoMemory ≡ link_stop.Stopped)
 stops = (refl, refl)
 
 pub faults : map is_fault (connection.Over ∷ connection.LinkFault ∷ connection.Stopped ∷ []) ≡ false ∷ true ∷ false ∷ []
 faults = refl
 
 -- the count rose at a link fault, and nowhere else
-pub causes : (before now : ℕ) → Rose before now → HaltCause {T = Bool} before before (Ok true) × HaltCause {T = Bool} before now (Err halt.LinkFault)
-    × HaltCause {T = Bool} before before (Err halt.Stopped)
+pub causes : (before now : ℕ) → Rose before now → LinkStopCause {T = Bool} before before (Ok true) × LinkStopCause {T = Bool} before now (Err link_stop.LinkFault)
+    × LinkStopCause {T = Bool} before before (Err link_stop.Stopped)
 causes before now rose = (refl, rose, refl)
 
-pub halt_causes : (before now : ℕ) → (HaltCause {T = Bool} before now (Err halt.LinkFault) → Rose before now) × (HaltCause {T = Bool} before now (Err halt.Stopped) → now ≡ before)
-halt_causes before now = ((λ c. c), (λ c. c))
+pub stop_causes : (before now : ℕ) → (LinkStopCause {T = Bool} before now (Err link_stop.LinkFault) → Rose before now) × (LinkStopCause {T = Bool} before now (Err link_stop.Stopped) → now ≡ before)
+stop_causes before now = ((λ c. c), (λ c. c))
 
 -- and may have risen where a connection was stopped
 pub end_causes : (before now : ℕ) → Rose before now
     → EndCause before before connection.Over × EndCause before now connection.LinkFault × EndCause before before connection.Stopped × EndCause before now connection.Stopped
 end_causes before now rose = (refl, rose, inl refl, inr rose)
 
-pub link_causes : (before now : ℕ) → (LinkCause before now (Ok true) → Rose before now) × (LinkCause before now (Ok false) → now ≡ before) × (LinkCause before now (Err halt.LinkFault) → now ≡ before)
+pub link_causes : (before now : ℕ) → (LinkCause before now (Ok true) → Rose before now) × (LinkCause before now (Ok false) → now ≡ before) × (LinkCause before now (Err link_stop.LinkFault) → now ≡ before)
 link_causes before now = ((λ c. c), (λ c. c), (λ c. c))
 
-pub lack_causes : (before now : ℕ) → Rose before now → LinkCause before before (Err halt.Stopped) × LinkCause before now (Err halt.Stopped)
+pub lack_causes : (before now : ℕ) → Rose before now → LinkCause before before (Err link_stop.Stopped) × LinkCause before now (Err link_stop.Stopped)
 lack_causes before now rose = (inl refl, inr rose)
 
 -- a fault that is told is of a link or of an accept

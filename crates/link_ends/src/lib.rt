@@ -2,7 +2,7 @@
 #![tactic(auto)]
 
 mod end;
-mod halt;
+mod link_stop;
 
 pub use end::{ConnectionEnd, ServingEnd};
-pub use halt::Halt;
+pub use link_stop::LinkStop;

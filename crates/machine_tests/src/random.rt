@@ -6,12 +6,13 @@ mod templates;
 
 use crate::fuel::check_ends;
 use crate::random::generator::program_text;
-use crate::stage::{FIRST, code_of, trap_word};
+use crate::stage::code_of;
 use code_gen::Code;
 use core_terms::Outcome;
 use reference_run::{Plain, metered_run};
 use std::alloc::{AllocError, Global};
 use std::test::Fail;
+use term_stage::one_int::{FIRST, trap_word};
 
 /// How many programs there are.
 const PROGRAMS: u64 = 1_000;

@@ -1,25 +1,12 @@
 // Code for the tests, and how calls end that run on it.
-ghost use Rattle.std.specs.Prelude.{◌≡◌, ◌<◌, ◌∷◌, [], length, IsTrue};
-ghost use Rattle.core_terms.specs.Programs.{meaning};
-ghost use Rattle.core_terms.specs.Terms.{function_at};
-ghost use Rattle.core_terms.specs.Types.{IntTy};
-
 use auth_syntax::parser::parse;
 use auth_types::check::check;
 use code_gen::Code;
-use core_terms::{Digest, FunctionId, Outcome, Program, Trap, TyForm};
+use core_terms::{Digest, MOST_FUEL, MOST_PROGRAM_BYTES, Outcome};
 use mode_vm::{IdealMode, Machine, Step, ideal_run};
 use std::alloc::{AllocError, Global};
+use term_stage::one_int::{FIRST, takes_int, trap_word};
 use value_store::{Nodes, Ref, Store, View};
-
-/// The longest text of a program, in bytes.
-const MAX_PROGRAM: usize = 262_144;
-
-/// The greatest fuel of a run.
-const MAX_FUEL: u64 = 1_000_000_000_000;
-
-/// The function that the tests call: the first one that is declared.
-pub const FIRST: FunctionId = FunctionId(0);
 
 /// The code of a text, in a box: it is wide, and tests hold it over many calls.
 ///
@@ -27,29 +14,15 @@ pub const FIRST: FunctionId = FunctionId(0);
 ///
 /// `AllocError` where memory runs out, or where the text is no program.
 pub fn code_of(alloc: Global, text: &[u8]) -> Result<Box<Code>, AllocError> {
-    if text.len() > MAX_PROGRAM {
+    if text.len() > MOST_PROGRAM_BYTES {
         return Err(AllocError);
     }
     let Ok(ast) = parse(alloc, text) else {
         return Err(AllocError);
     };
-    match check(alloc, ast, Digest([7; 32])) {
+    match check(alloc, &ast, Digest([7; 32])) {
         Ok(program) => Ok(Box::new(alloc, Code::generate(program, alloc)?)?),
         Err(_) => Err(AllocError),
-    }
-}
-
-/// Whether there is a first function, of one int.
-fn takes_int(program: &Program) -> bool
-    ensures there { IsTrue result → 0 < length (meaning program.now).functions }
-    ensures int { IsTrue result → (function_at (meaning program.now) 0).parameters ≡ IntTy ∷ [] }
-{
-    if program.functions().is_empty() {
-        return false;
-    }
-    match program.function(FIRST).parameters.as_slice() {
-        [ty] => program.form(*ty) == TyForm::IntForm,
-        _ => false,
     }
 }
 
@@ -59,13 +32,8 @@ fn takes_int(program: &Program) -> bool
 ///
 /// `AllocError` where memory runs out, where the function takes no int, where there is too much fuel, or where the value is no leaf.
 pub fn run(alloc: Global, code: &Code, argument: i64, fuel: u64) -> Result<String, AllocError> {
-    if fuel > MAX_FUEL || !takes_int(code.program()) {
-        return Err(AllocError);
-    }
-    let mut store = Store::new(alloc, code.types().spelling_limit() as u32);
-    let value = store.put_int(argument)?;
-    let outcome = ideal_run(code, &mut store, FIRST, &[value], fuel, alloc)?;
-    outcome_text(alloc, &store, outcome)
+    let (told, _) = run_counted(alloc, code, argument, fuel)?;
+    Ok(told)
 }
 
 /// The same, and how many nodes there are then.
@@ -79,7 +47,7 @@ pub fn run_counted(
     argument: i64,
     fuel: u64,
 ) -> Result<(String, usize), AllocError> {
-    if fuel > MAX_FUEL || !takes_int(code.program()) {
+    if fuel > MOST_FUEL || !takes_int(code.program()) {
         return Err(AllocError);
     }
     let mut store = Store::new(alloc, code.types().spelling_limit() as u32);
@@ -101,7 +69,7 @@ pub fn run_in_slices(
     fuel: u64,
     units: u64,
 ) -> Result<(String, u64), AllocError> {
-    if fuel > MAX_FUEL || units == 0 || !takes_int(code.program()) {
+    if fuel > MOST_FUEL || units == 0 || !takes_int(code.program()) {
         return Err(AllocError);
     }
     let mut store = Store::new(alloc, code.types().spelling_limit() as u32);
@@ -138,16 +106,5 @@ fn leaf_text(alloc: Global, view: View<'_>) -> Result<String, AllocError> {
         View::Int(value) => format!(in alloc; "{value}"),
         View::Text(text) => String::from_str(alloc, text),
         _ => Err(AllocError),
-    }
-}
-
-/// A trap in a word.
-pub fn trap_word(trap: Trap) -> &'static str {
-    match trap {
-        Trap::Overflow => "overflow",
-        Trap::DivZero => "divzero",
-        Trap::TooBig => "toobig",
-        Trap::TooDeep => "toodeep",
-        Trap::Index => "index",
     }
 }

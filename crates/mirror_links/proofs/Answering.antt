@@ -8,8 +8,8 @@ use Rattle.session_meaning.specs.FetchMessages.{IsAnswer, answer_bytes, answers_
 use Rattle.piece_mirror.specs.Answers.{answer_of, given_by}
 use Rattle.piece_mirror.specs.Mirrors.{AreShort, first_with, piece_limit}
 use Rattle.link_ends.specs.MoreLinks.{TakesBytes}
-use Rattle.link_ends.specs.declared.halt.Halt.{Halt}
-use Rattle.link_ends.specs.declared.halt.Halt.TheVariants as halt
+use Rattle.link_ends.specs.declared.link_stop.LinkStop.{LinkStop}
+use Rattle.link_ends.specs.declared.link_stop.LinkStop.TheVariants as link_stop
 use Rattle.mirror_links.specs.Answered.{IsSentPart}
 use Rattle.mirror_links.specs.Steps.{AnswersMessage, AsksNext, AsksNothing, BreaksOff, IsAskedBy, SendsFront}
 
@@ -75,20 +75,20 @@ module _ (get : List ℕ → Got) where
     part = λ most. one_part (asked_in (suc most) taken) digest n (asks_one most taken digest asked) within;
   }
 
-  unread_breaks : (bytes : List ℕ) (left' sent sent' : Option (List ℕ)) (stop : Halt) → sent' ≡ sent → AsksNext bytes left' (Err stop) → BreaksOff get bytes left' sent sent'
-  unread_breaks bytes left' sent sent' halt.LinkFault same asks = none_breaks bytes left' sent sent' asks.0 asks.1 asks.2 same
-  unread_breaks bytes left' sent sent' halt.Stopped same (taken, takes, inl nothing) = none_breaks bytes left' sent sent' taken takes nothing same
-  unread_breaks bytes left' sent sent' halt.Stopped same (taken, takes, inr (digest, asked)) =
+  unread_breaks : (bytes : List ℕ) (left' sent sent' : Option (List ℕ)) (stop : LinkStop) → sent' ≡ sent → AsksNext bytes left' (Err stop) → BreaksOff get bytes left' sent sent'
+  unread_breaks bytes left' sent sent' link_stop.LinkFault same asks = none_breaks bytes left' sent sent' asks.0 asks.1 asks.2 same
+  unread_breaks bytes left' sent sent' link_stop.Stopped same (taken, takes, inl nothing) = none_breaks bytes left' sent sent' taken takes nothing same
+  unread_breaks bytes left' sent sent' link_stop.Stopped same (taken, takes, inr (digest, asked)) =
       one_breaks bytes left' sent sent' taken digest 0 takes asked (omega arith) (same ∙ sym (append_none sent))
 
   -- no message was read
-  pub unread : (bytes : List ℕ) (left' sent sent' : Option (List ℕ)) (stop : Halt) (result : Result Bool Halt) → IsErrAnd result (λ e. e ≡ stop) → sent' ≡ sent
+  pub unread : (bytes : List ℕ) (left' sent sent' : Option (List ℕ)) (stop : LinkStop) (result : Result Bool LinkStop) → IsErrAnd result (λ e. e ≡ stop) → sent' ≡ sent
       → AsksNext bytes left' (Err stop) → AnswersMessage get bytes left' sent sent' result
   unread bytes left' sent sent' stop (Ok on) halted same asks = absurd halted
   unread bytes left' sent sent' stop (Err e) halted same asks = unread_breaks bytes left' sent sent' stop same asks
 
   -- a message was read, and of its answer a front was sent; the link tells the same before the answer
-  pub answered_part : (bytes : List ℕ) (left1 left2 sent0 sent1 sent2 : Option (List ℕ)) (asked : Option Digest) (digest : Digest) (got : Got) (stop : Halt) (result : Result Bool Halt)
+  pub answered_part : (bytes : List ℕ) (left1 left2 sent0 sent1 sent2 : Option (List ℕ)) (asked : Option Digest) (digest : Digest) (got : Got) (stop : LinkStop) (result : Result Bool LinkStop)
       → IsErrAnd result (λ e. e ≡ stop) → asked ≡ Some digest → got ≡ get digest.0 → sent1 ≡ sent0 → left2 ≡ left1 → AsksNext bytes left1 (Ok asked)
       → SendsFront (answer_bytes got) sent1 sent2 (Err stop) → AnswersMessage get bytes left2 sent0 sent2 result
   answered_part bytes left1 left2 sent0 sent1 sent2 asked digest got stop (Ok on) halted is gives same left asks sends = absurd halted

@@ -13,7 +13,7 @@ use Rattle.wire_form.specs.ReadMessages.{ReadsMessage, StopsShort}
 use Rattle.wire_form.specs.declared.message.ReadStop.{ReadStop}
 use Rattle.wire_form.specs.declared.message.ReadStop.TheVariants.{BadMessage, TooLong, End, Cut, LinkFault, NoMemory}
 use Rattle.link_ends.specs.MoreLinks.{TakesBytes}
-use Rattle.link_ends.specs.declared.halt.Halt.TheVariants as halt
+use Rattle.link_ends.specs.declared.link_stop.LinkStop.TheVariants as link_stop
 use Rattle.link_ends.proofs.Taken.{took, took_all}
 use Rattle.mirror_links.specs.Steps.{AsksNext, AsksNothing, IsAskedBy}
 
@@ -96,11 +96,11 @@ module _ (bytes : List ℕ) (left' : Option (List ℕ)) (stop : ReadStop) where
   cut_next is reads = let read = subst Reads is reads in (bytes, took_all bytes left' read.1, (meant.IsCut, read.0))
 
   -- the link failed
-  pub fault_next : stop ≡ LinkFault → Reads stop → AsksNext bytes left' (Err halt.LinkFault)
+  pub fault_next : stop ≡ LinkFault → Reads stop → AsksNext bytes left' (Err link_stop.LinkFault)
   fault_next is reads =
       let read = subst Reads is reads in (take read.0 bytes, took read.0 bytes left' read.1, short_asks (take read.0 bytes) read.2)
 
   -- memory was wanting
-  pub lacking_next : stop ≡ NoMemory → Reads stop → AsksNext bytes left' (Err halt.Stopped)
+  pub lacking_next : stop ≡ NoMemory → Reads stop → AsksNext bytes left' (Err link_stop.Stopped)
   lacking_next is reads =
       let read = subst Reads is reads in (take read.0 bytes, took read.0 bytes left' read.2, at_most_one read.0 bytes read.1)

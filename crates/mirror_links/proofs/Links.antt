@@ -11,7 +11,7 @@ use Rattle.ideal_meaning.specs.Fetched.{Got}
 use Rattle.wire_form.specs.MovedBytes.{Moves}
 use Rattle.link_ends.specs.declared.end.ConnectionEnd.{ConnectionEnd}
 use Rattle.link_ends.specs.declared.end.ConnectionEnd.TheVariants as connection
-use Rattle.link_ends.specs.declared.halt.Halt.{Halt}
+use Rattle.link_ends.specs.declared.link_stop.LinkStop.{LinkStop}
 use Rattle.link_ends.proofs.FaultsTold.{or_others}
 use Rattle.link_ends.proofs.OneMore.{are_more}
 use Rattle.link_ends.proofs.StandingLink.{all_stood, from_nothing, nothing_sent, told}
@@ -123,6 +123,6 @@ module _ (get : List ℕ → Got) (port : ℕ) (links : Option (List Linked)) wh
       record { faulted = faulted; count = count; answered = so_far; number = inr (fewer, refl, subst From same rose) }
 
 -- what the next link's result says, where it is known
-pub next_at : (get : List ℕ → Got) (port : ℕ) (links links' : Option (List Linked)) (r known : Result Bool Halt) → r ≡ known → AnswersNext get port links links' r
+pub next_at : (get : List ℕ → Got) (port : ℕ) (links links' : Option (List Linked)) (r known : Result Bool LinkStop) → r ≡ known → AnswersNext get port links links' r
     → AnswersNext get port links links' known
-next_at get port links links' r known is answers = let Of : Result Bool Halt → Type 0 = λ r. AnswersNext get port links links' r in subst Of is answers
+next_at get port links links' r known is answers = let Of : Result Bool LinkStop → Type 0 = λ r. AnswersNext get port links links' r in subst Of is answers

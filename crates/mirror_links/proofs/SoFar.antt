@@ -13,7 +13,7 @@ use Rattle.wire_form.specs.Waits.{WaitsInside}
 use Rattle.wire_form.proofs.Coming.{short_read}
 use Rattle.link_ends.specs.MoreLinks.{TakesBytes, but_last}
 use Rattle.link_ends.specs.declared.end.ConnectionEnd.TheVariants.{Over, LinkFault, Stopped}
-use Rattle.link_ends.specs.declared.halt.Halt.{Halt}
+use Rattle.link_ends.specs.declared.link_stop.LinkStop.{LinkStop}
 use Rattle.link_ends.proofs.Taken.{took}
 use Rattle.mirror_links.specs.Answered.{IsSentPart}
 use Rattle.mirror_links.specs.Prompt.{IsPrompt}
@@ -191,7 +191,7 @@ module _ (get : List ℕ → Got) where
           (reads_weaken (WaitsInside so_far.takes.0 sent') (IsPrompt get bytes sent) (prompt_now fetches_limit (suc further.0) further.1) reads' reads'' waits)
 
 -- what a message's result says, where it is known
-pub answered_at : (get : List ℕ → Got) (bytes : List ℕ) (left' sent sent' : Option (List ℕ)) (r known : Result Bool Halt) → r ≡ known
+pub answered_at : (get : List ℕ → Got) (bytes : List ℕ) (left' sent sent' : Option (List ℕ)) (r known : Result Bool LinkStop) → r ≡ known
     → AnswersMessage get bytes left' sent sent' r → AnswersMessage get bytes left' sent sent' known
 answered_at get bytes left' sent sent' r known is answers =
-    let Of : Result Bool Halt → Type 0 = λ r. AnswersMessage get bytes left' sent sent' r in subst Of is answers
+    let Of : Result Bool LinkStop → Type 0 = λ r. AnswersMessage get bytes left' sent sent' r in subst Of is answers

@@ -10,8 +10,8 @@ use Rattle.link_ends.specs.Ends.{is_fault}
 use Rattle.link_ends.specs.MoreLinks.{TakesBytes}
 use Rattle.link_ends.specs.declared.end.ConnectionEnd.{ConnectionEnd}
 use Rattle.link_ends.specs.declared.end.ConnectionEnd.TheVariants as connection
-use Rattle.link_ends.specs.declared.halt.Halt.{Halt}
-use Rattle.link_ends.specs.declared.halt.Halt.TheVariants as halt
+use Rattle.link_ends.specs.declared.link_stop.LinkStop.{LinkStop}
+use Rattle.link_ends.specs.declared.link_stop.LinkStop.TheVariants as link_stop
 use Rattle.mirror_links.specs.Answered.{IsAnswered, IsSentPart}
 use Rattle.mirror_links.specs.AnsweredLinks.{IsAnsweredOn}
 
@@ -25,15 +25,15 @@ AsksNothing bytes = (stop : Stop) × (read_fetch bytes ≡ Stops stop)
 
 -- What is asked for next, where these bytes come and some of them are taken. Where the link failed no message stands whole in those that were
 -- taken; where memory was wanting, at most one.
-abbrev pub AsksNext : (bytes : List ℕ) (left' : Option (List ℕ)) → Result (Option Digest) Halt → Type 0
+abbrev pub AsksNext : (bytes : List ℕ) (left' : Option (List ℕ)) → Result (Option Digest) LinkStop → Type 0
 AsksNext bytes left' (Ok (Some digest)) = (taken : List ℕ) × TakesBytes bytes taken left' × IsAskedBy taken digest.0
 AsksNext bytes left' (Ok None) = (taken : List ℕ) × TakesBytes bytes taken left' × AsksNothing bytes
-AsksNext bytes left' (Err halt.LinkFault) = (taken : List ℕ) × TakesBytes bytes taken left' × AsksNothing taken
-AsksNext bytes left' (Err halt.Stopped) =
+AsksNext bytes left' (Err link_stop.LinkFault) = (taken : List ℕ) × TakesBytes bytes taken left' × AsksNothing taken
+AsksNext bytes left' (Err link_stop.Stopped) =
     (taken : List ℕ) × TakesBytes bytes taken left' × (AsksNothing taken ⊎ ((digest : List ℕ) × IsAskedBy taken digest))
 
 -- all of these bytes were sent, or a front of them
-abbrev pub SendsFront : (bytes : List ℕ) (sent sent' : Option (List ℕ)) → Result (Unit {0}) Halt → Type 0
+abbrev pub SendsFront : (bytes : List ℕ) (sent sent' : Option (List ℕ)) → Result (Unit {0}) LinkStop → Type 0
 SendsFront bytes sent sent' (Ok done) = sent' ≡ append_known sent bytes
 SendsFront bytes sent sent' (Err stop) = (n : ℕ) × (n ≤ length bytes) × (sent' ≡ append_known sent (take n bytes))
 
@@ -55,7 +55,7 @@ module _ (get : List ℕ → Got) where
     pub part : (most : ℕ) → IsSentPart get (asked_in (suc most) taken) out
 
   -- a message of the connection, behind which it goes on, or not
-  abbrev pub AnswersMessage : (bytes : List ℕ) (left' sent sent' : Option (List ℕ)) → Result Bool Halt → Type 0
+  abbrev pub AnswersMessage : (bytes : List ℕ) (left' sent sent' : Option (List ℕ)) → Result Bool LinkStop → Type 0
   AnswersMessage bytes left' sent sent' (Ok true) = MirrorGoesOn bytes left' sent sent'
   AnswersMessage bytes left' sent sent' (Ok false) = (taken : List ℕ) × TakesBytes bytes taken left' × AsksNothing bytes × (sent' ≡ sent)
   AnswersMessage bytes left' sent sent' (Err stop) = BreaksOff bytes left' sent sent'
@@ -85,7 +85,7 @@ module _ (get : List ℕ → Got) where
     pub fault : faulted ≡ is_fault end
 
   -- so it is at an accepted link; where none was, the links are the same
-  abbrev pub AnswersNext : (port : ℕ) → (links links' : Option (List Linked)) → Result Bool Halt → Type 0
+  abbrev pub AnswersNext : (port : ℕ) → (links links' : Option (List Linked)) → Result Bool LinkStop → Type 0
   AnswersNext port links links' (Ok faulted) = (after : List Linked) → links' ≡ Some after → IsOneWhole port links after faulted
-  AnswersNext port links links' (Err halt.LinkFault) = links' ≡ links
-  AnswersNext port links links' (Err halt.Stopped) = (after : List Linked) → links' ≡ Some after → IsOneAnswered port links after connection.Stopped
+  AnswersNext port links links' (Err link_stop.LinkFault) = links' ≡ links
+  AnswersNext port links links' (Err link_stop.Stopped) = (after : List Linked) → links' ≡ Some after → IsOneAnswered port links after connection.Stopped

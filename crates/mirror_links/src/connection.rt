@@ -3,7 +3,7 @@ ghost use Rattle.std.specs.Prelude.{◌≡◌, IfOk, option_map};
 ghost use Rattle.std.specs.Option.{ForSome};
 ghost use Rattle.lam_outside.specs.LinkSteps.{AtEachRead};
 ghost use Rattle.link_ends.specs.EndCauses.{EndCause};
-ghost use Rattle.link_ends.specs.Halts.{HaltCause};
+ghost use Rattle.link_ends.specs.LinkStops.{LinkStopCause};
 ghost use Rattle.mirror_links.specs.Prompt.{IsPrompt};
 ghost use Rattle.mirror_links.specs.Steps.{AnswersMessage, AsksNext, Ends, SendsFront};
 ghost use Rattle.piece_mirror.specs.Answers.{answer_of, given_by};
@@ -15,7 +15,7 @@ ghost use Rattle.wire_form.specs.Waits.{WaitsInside};
 
 use core_terms::{Digest, Hash32, Piece};
 use lam_outside::Link;
-use link_ends::{ConnectionEnd, Halt};
+use link_ends::{ConnectionEnd, LinkStop};
 use piece_mirror::Mirror;
 use std::alloc::{AllocError, Global};
 use wire_form::{Got, ReadStop, read_fetch, write_piece};
@@ -45,8 +45,8 @@ pub fn answer_link<H: Hash32, L: Link>(
         match answer_message(alloc, mirror, link) {
             Ok(true) => {}
             Ok(false) => return ConnectionEnd::Over,
-            Err(Halt::LinkFault) => return ConnectionEnd::LinkFault,
-            Err(Halt::Stopped) => return ConnectionEnd::Stopped,
+            Err(LinkStop::LinkFault) => return ConnectionEnd::LinkFault,
+            Err(LinkStop::Stopped) => return ConnectionEnd::Stopped,
         }
     }
     ConnectionEnd::Over
@@ -57,13 +57,13 @@ fn answer_message<H: Hash32, L: Link>(
     alloc: Global,
     mirror: &Mirror<H>,
     link: &mut L,
-) -> Result<bool, Halt>
+) -> Result<bool, LinkStop>
     ensures answered { ForSome (L.left link.old) (λ bytes.
         AnswersMessage (given_by H.hash (bytes_of mirror.now.pieces)) bytes (L.left link.new) (L.sent link.old) (L.sent link.new) result) }
     ensures waits { ForSome (L.left link.old) (λ bytes. AtEachRead (WaitsInside bytes (L.sent link.old)) (L.reads link.old) (L.reads link.new)) }
     ensures moves { Moves (L.given link.old) (L.left link.old) (L.given link.new) (L.left link.new) }
     ensures beyond { L.beyond link.new ≡ L.beyond link.old }
-    ensures cause { HaltCause (L.faults link.old) (L.faults link.new) result }
+    ensures cause { LinkStopCause (L.faults link.old) (L.faults link.new) result }
 {
     match next_asked(alloc, link)? {
         Some(digest) => {
@@ -75,13 +75,13 @@ fn answer_message<H: Hash32, L: Link>(
 }
 
 /// The digest that the next message asks for; none where there is no such message.
-fn next_asked<L: Link>(alloc: Global, link: &mut L) -> Result<Option<Digest>, Halt>
+fn next_asked<L: Link>(alloc: Global, link: &mut L) -> Result<Option<Digest>, LinkStop>
     ensures asks { ForSome (L.left link.old) (λ bytes. AsksNext bytes (L.left link.new) result) }
     ensures waits { ForSome (L.left link.old) (λ bytes. AtEachRead (WaitsInside bytes (L.sent link.old)) (L.reads link.old) (L.reads link.new)) }
     ensures moves { Moves (L.given link.old) (L.left link.old) (L.given link.new) (L.left link.new) }
     ensures sent { L.sent link.new ≡ L.sent link.old }
     ensures beyond { L.beyond link.new ≡ L.beyond link.old }
-    ensures cause { HaltCause (L.faults link.old) (L.faults link.new) result }
+    ensures cause { LinkStopCause (L.faults link.old) (L.faults link.new) result }
 {
     match read_fetch(alloc, link) {
         Ok(digest) => Ok(Some(digest)),
@@ -89,20 +89,20 @@ fn next_asked<L: Link>(alloc: Global, link: &mut L) -> Result<Option<Digest>, Ha
         Err(ReadStop::TooLong(_)) => Ok(None),
         Err(ReadStop::End) => Ok(None),
         Err(ReadStop::Cut) => Ok(None),
-        Err(ReadStop::LinkFault) => Err(Halt::LinkFault),
-        Err(ReadStop::NoMemory) => Err(Halt::Stopped),
+        Err(ReadStop::LinkFault) => Err(LinkStop::LinkFault),
+        Err(ReadStop::NoMemory) => Err(LinkStop::Stopped),
     }
 }
 
 /// Sends a piece, or that there is none. Where that fails a front of it may have been sent.
-fn answer<L: Link>(alloc: Global, piece: Option<&[u8]>, link: &mut L) -> Result<(), Halt>
+fn answer<L: Link>(alloc: Global, piece: Option<&[u8]>, link: &mut L) -> Result<(), LinkStop>
     requires { IsAnswer (answer_of (option_map (λ p. p.now) piece)) }
     ensures sends { SendsFront (answer_bytes (answer_of (option_map (λ p. p.now) piece.entry))) (L.sent link.old) (L.sent link.new) result }
     ensures reads { L.reads link.new ≡ L.reads link.old }
     ensures given { L.given link.new ≡ L.given link.old }
     ensures left { L.left link.new ≡ L.left link.old }
     ensures beyond { L.beyond link.new ≡ L.beyond link.old }
-    ensures cause { HaltCause (L.faults link.old) (L.faults link.new) result }
+    ensures cause { LinkStopCause (L.faults link.old) (L.faults link.new) result }
 {
     let got = got_of(alloc, piece)?;
     write_piece(alloc, link, &got)?;

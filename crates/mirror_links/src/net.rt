@@ -3,7 +3,7 @@ ghost use Rattle.std.specs.Prelude.{◌≡◌};
 ghost use Rattle.std.specs.Option.{ForSome};
 ghost use Rattle.lam_outside.specs.Links.{links_so_far};
 ghost use Rattle.link_ends.specs.EndCauses.{LinkCause, ServingCause};
-ghost use Rattle.link_ends.specs.Halts.{HaltCause};
+ghost use Rattle.link_ends.specs.LinkStops.{LinkStopCause};
 ghost use Rattle.mirror_links.specs.AnsweredLinks.{AnswersLinks};
 ghost use Rattle.mirror_links.specs.Steps.{AnswersNext};
 ghost use Rattle.piece_mirror.specs.Answers.{given_by};
@@ -12,7 +12,7 @@ ghost use Rattle.piece_mirror.specs.Tables.{bytes_of};
 use crate::connection::answer_link;
 use core_terms::Hash32;
 use lam_outside::Net;
-use link_ends::{ConnectionEnd, Halt, ServingEnd};
+use link_ends::{ConnectionEnd, LinkStop, ServingEnd};
 use piece_mirror::Mirror;
 use std::alloc::Global;
 
@@ -43,8 +43,8 @@ pub fn answer_links<H: Hash32, N: Net>(
                     link_fault = true;
                 }
             }
-            Err(Halt::LinkFault) => return ServingEnd::Served { link_fault: true },
-            Err(Halt::Stopped) => return ServingEnd::Stopped,
+            Err(LinkStop::LinkFault) => return ServingEnd::Served { link_fault: true },
+            Err(LinkStop::Stopped) => return ServingEnd::Stopped,
         }
     }
     ServingEnd::Served { link_fault }
@@ -57,20 +57,20 @@ fn answer_next<H: Hash32, N: Net>(
     alloc: Global,
     mirror: &Mirror<H>,
     net: &mut N,
-) -> Result<bool, Halt>
+) -> Result<bool, LinkStop>
     ensures answered { ForSome (N.listened net.old) (λ port. AnswersNext (given_by H.hash (bytes_of mirror.now.pieces)) port
         (links_so_far (N.ended net.old) (N.linked net.old) (N.given net.old) (N.left net.old) (N.sent net.old) (N.reads net.old))
         (links_so_far (N.ended net.new) (N.linked net.new) (N.given net.new) (N.left net.new) (N.sent net.new) (N.reads net.new)) result) }
     ensures listened { N.listened net.new ≡ N.listened net.old }
     ensures listens { N.listen_faults net.new ≡ N.listen_faults net.old }
     ensures dials { N.dial_faults net.new ≡ N.dial_faults net.old }
-    ensures accepts { HaltCause (N.accept_faults net.old) (N.accept_faults net.new) result }
+    ensures accepts { LinkStopCause (N.accept_faults net.old) (N.accept_faults net.new) result }
     ensures cause { LinkCause (N.faults net.old) (N.faults net.new) result }
 {
     net.accept()?;
     match answer_link(alloc, mirror, net) {
         ConnectionEnd::Over => Ok(false),
         ConnectionEnd::LinkFault => Ok(true),
-        ConnectionEnd::Stopped => Err(Halt::Stopped),
+        ConnectionEnd::Stopped => Err(LinkStop::Stopped),
     }
 }

@@ -1,7 +1,7 @@
 // Calls on the tree, what they ask for, and what is told of them.
-use crate::program::reading;
 use crate::trees::{FIVE, INNER, NEW_ROOT, NINE, ROOT, SEVEN, at};
 use crate::witness::Witness;
+use call_stage::calls::reading;
 use code_gen::Code;
 use core_terms::{Digest, Hash32, Outcome, Spelling};
 use piece_fetch::{FetchCause, FetchVerdict, verify_from};

@@ -13,15 +13,10 @@
 //     query get(s: auth tree, path: int): int = walk(s, path);
 //     query total(s: auth tree, x: unit): int = sum(s);
 //     update grow(s: auth tree, by: int): (auth tree, int) = (grown(s, by), by);
-ghost use Rattle.std.specs.Prelude.{◌<◌, length, IfSome};
-ghost use Rattle.core_terms.specs.Programs.{meaning};
-ghost use Rattle.mode_vm.specs.StateCalls.{TakesState};
-
 use crate::terms::{CHANGED, HELD, INT, Step, TREE, UNIT, term_of};
 use code_gen::Code;
 use core_terms::{
-    Arith, Constructor, Format, Function, FunctionId, Kind, NamedId, NamedType, Program, RoleId,
-    RoleKind, TyForm, TyId, TyTable,
+    Arith, Constructor, Format, Function, Kind, NamedId, NamedType, TyForm, TyId, TyTable,
 };
 use std::alloc::{AllocError, Global};
 use term_stage::parts::program_of;
@@ -214,16 +209,4 @@ pub fn code_of(alloc: Global, format: Format) -> Result<Box<Code>, AllocError> {
     let program = program_of(Box::into_inner(types), named, HELD, functions, alloc)?;
     let code = Code::generate(Box::into_inner(program), alloc)?;
     Ok(Box::new(alloc, code)?)
-}
-
-/// The function of a role that reads the state.
-pub fn reading(program: &Program, name: &str) -> Option<FunctionId>
-    ensures { IfSome result (λ f. (f.0 < length (meaning program.now).functions) × TakesState (meaning program.now) f.0) }
-{
-    let RoleId(number) = program.role(name)?;
-    let role = program.roles().get(number)?;
-    match role.kind {
-        RoleKind::Init => None,
-        RoleKind::Query | RoleKind::Update => Some(role.function),
-    }
 }

@@ -1,5 +1,5 @@
 -- The machine authenticates its top operand.
-use Rattle.std.proofs.Common.{◌≡◌, ℕ, ◌+◌, true, List, [], ◌∷◌, ◌++◌, reverse, Err, Option, None, refl, ap, ◌∙◌, subst}
+use Rattle.std.proofs.Common.{◌≡◌, ℕ, ◌+◌, true, List, [], ◌∷◌, ◌++◌, reverse, None, refl, ap, ◌∙◌, subst}
 use Rattle.core_terms.specs.Types.{Ty, AuthTy}
 use Rattle.core_terms.specs.Values.{Value, Values, NoV, AndV}
 use Rattle.core_terms.specs.Terms.{Program}
@@ -13,11 +13,7 @@ use Rattle.value_store.specs.Standing.{Kind, Keeps}
 use Rattle.value_store.specs.Markings.{Marking, kind_of}
 use Rattle.mode_vm.specs.Operands.{AllHeld, IsHeld}
 use Rattle.mode_vm.specs.declared.operand.Operand.{Operand}
-use Rattle.mode_vm.specs.Meanings.{CauseOf, RunOf, StateOf, mode_of}
-use Rattle.mode_vm.specs.Openings.{OnlyMemory}
-use Rattle.mode_vm.specs.Runs.{StopIs}
-use Rattle.mode_vm.specs.declared.mode.Stop.{Stop}
-use Rattle.mode_vm.specs.declared.mode.Stop.TheVariants.{Mode as ModeStops, NoMemory}
+use Rattle.mode_vm.specs.Meanings.{mode_of}
 use Rattle.mode_vm.specs.Machines.{ValueStack, Represents, IsNext, Before}
 use Rattle.mode_vm.specs.Outcomes.{GoesTo}
 use Rattle.mode_vm.specs.StateParts.{IsAt, IsElseSame}
@@ -63,8 +59,3 @@ module _ (m : Marking) (P : Program) (z : Ty) (old : List Node) (before : State)
       (λ next k w.
       ap (λ os. act (generated P) (mode_of m P) (calls m P cs.top.depth) (Auth t) next (tie cs.top.local_types cs.top.locals) (tie os cs.top.operands) k w) operand.types_are
       ∙ ap (λ us. act (generated P) (mode_of m P) (calls m P cs.top.depth) (Auth t) next (tie cs.top.local_types cs.top.locals) (tie (t ∷ operand.below_types) us) k w) operand.are))
-
-pub only_memory : (m : Marking) (P : Program) (z : Ty) {F : Type 0} (cause : F → Option (CauseOf m)) (New : StateOf m → Type 0) (nodes : List Node) (k : ℕ) (run : RunOf m) (A : Type 0)
-    (stop : Stop F) → OnlyMemory {A = A} (Err stop) → StopIs m P z cause New nodes k stop run
-only_memory m P z cause New nodes k run A NoMemory h = tt
-only_memory m P z cause New nodes k run A (ModeStops f) h = elim h [ ]

@@ -41,10 +41,6 @@ module _ (kind : Kind) (types : Table) (nodes : List Node) where
   abbrev pub IsNode : Operand → Ty → Value → Type 0
   IsNode o t v = (r : Ref) × (o ≡ At r) × StandsFor kind types nodes r.0 t v
 
-  pub text_node : (o : Operand) (v : Value) → IsHeld kind types nodes o TextTy v → IsNode o TextTy v
-  text_node (At r) v h = (r, refl, h)
-  text_node o v h = elim h [ ]
-
   pub pair_node : (a b : Ty) (o : Operand) (v : Value) → IsHeld kind types nodes o (PairTy a b) v → IsNode o (PairTy a b) v
   pair_node a b (At r) v h = (r, refl, h)
   pair_node a b o v h = elim h [ ]

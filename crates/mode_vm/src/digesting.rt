@@ -43,14 +43,6 @@ impl<H: Hash32> Mode for DigestingMode<H> {
 
     ghost cause = { λ f. None };
 
-    ghost faults = { λ world. 0 };
-
-    ghost Rose = { λ old new. ⊥ };
-
-    ghost Asks = { ⊥ };
-
-    ghost Answer = { Unit {0} };
-
     ghost May = { λ v a w. ⊥ };
 
     ghost Last = { λ v a f w. ⊥ };
@@ -61,11 +53,7 @@ impl<H: Hash32> Mode for DigestingMode<H> {
 
     ghost Knows = { λ t mode nodes. AreFronts H.hash t mode.fronts };
 
-    ghost Rest = { Unit {0} };
-
     ghost rest = { λ world. tt };
-
-    ghost Moves = { λ a v b w. Unit {0} };
 
     ghost moves_not = { λ a v. tt };
 
@@ -75,6 +63,8 @@ impl<H: Hash32> Mode for DigestingMode<H> {
 
     ghost knows_on = { λ t mode old new k h. h };
 
+    // The prover calls this for each value that it authenticates.
+    #[inline(always)]
     fn auth<N: Nodes>(
         &mut self,
         types: &Types,

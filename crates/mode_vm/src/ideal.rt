@@ -25,14 +25,6 @@ impl Mode for IdealMode {
 
     ghost cause = { λ f. None };
 
-    ghost faults = { λ world. 0 };
-
-    ghost Rose = { λ old new. ⊥ };
-
-    ghost Asks = { ⊥ };
-
-    ghost Answer = { Unit {0} };
-
     ghost May = { λ v a w. ⊥ };
 
     ghost Last = { λ v a f w. ⊥ };
@@ -43,11 +35,7 @@ impl Mode for IdealMode {
 
     ghost Knows = { λ t mode nodes. Unit {0} };
 
-    ghost Rest = { Unit {0} };
-
     ghost rest = { λ world. tt };
-
-    ghost Moves = { λ a v b w. Unit {0} };
 
     ghost moves_not = { λ a v. tt };
 

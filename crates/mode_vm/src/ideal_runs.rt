@@ -19,7 +19,7 @@ use std::alloc::{AllocError, Global};
 use value_store::{Nodes, Ref};
 
 /// Calls a function in ideal mode, on arguments that stand among the nodes, with so much fuel, 10^12 units at most: its
-/// outcome, whose value stands among the nodes then.
+/// outcome, whose value stands among the nodes then. The store has the limit of the program's format.
 ///
 /// # Errors
 ///

@@ -206,7 +206,8 @@ impl<M: Mode> Machine<M> {
     }
 
     /// Runs until a further call is due when `units` calls of functions, 1 at least, were made in this slice and fuel is left, and there
-    /// pauses; or to the end.
+    /// pauses; or to the end. The machine is as `start` made it, or as the last slice left it, over a store with the limit of the
+    /// program's format.
     ///
     /// # Errors
     ///
@@ -257,7 +258,7 @@ impl<M: Mode> Machine<M> {
         }
     }
 
-    /// Runs to the end.
+    /// Runs to the end, of a machine and a store as [`Machine::run_slice`] takes them.
     ///
     /// # Errors
     ///

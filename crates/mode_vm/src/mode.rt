@@ -44,7 +44,8 @@ impl<T: Drop, F> From<AllocFailed<T>> for Stop<F> {
     }
 }
 
-/// What `auth` and `unauth` do.
+/// What `auth` and `unauth` do. The ghost members with a default are, unless they are given, those of a mode that may go on in every way and
+/// whose world neither answers freely nor fails.
 pub trait Mode: Drop {
     ghost use Rattle.mode_vm.specs.Meanings.{CauseOf, StateOf, mode_of};
     ghost use Rattle.mode_vm.specs.Openings.{Came, Counts, OnlyMemory, OpensAs, OpensSome, Stands};
@@ -65,25 +66,25 @@ pub trait Mode: Drop {
     ghost cause: { Self.Fault → Option (CauseOf marking) };
 
     /// How often the outside failed.
-    ghost faults: { Self.World → ℕ };
+    ghost faults: { Self.World → ℕ } = { λ world. 0 };
 
     /// What is said where it failed once more.
-    ghost Rose: { ℕ → ℕ → Type 0 };
+    ghost Rose: { ℕ → ℕ → Type 0 } = { λ old new. ⊥ };
 
     /// All else that the world means, which no opening changes.
-    ghost Rest: { Type 0 };
+    ghost Rest: { Type 0 } = { Unit {0} };
 
     /// All else that the world means.
     ghost rest: { Self.World → Rest };
 
     /// How a mode and its world may go on.
-    ghost Moves: { Self → Self.World → Self → Self.World → Type 0 };
+    ghost Moves: { Self → Self.World → Self → Self.World → Type 0 } = { λ a v b w. Unit {0} };
 
     /// Whether the outside answers freely where a value is opened, so that no state of the definitions is known before it has.
-    ghost Asks: { Type 0 };
+    ghost Asks: { Type 0 } = { ⊥ };
 
     /// What it answers.
-    ghost Answer: { Type 0 };
+    ghost Answer: { Type 0 } = { Unit {0} };
 
     /// It may give this answer, which is taken, and be so then.
     ghost May: { Self.World → Answer → Self.World → Type 0 };

@@ -174,10 +174,12 @@ module _ (P : Program) (z : Ty) where
     leads env (LenE x) t h a l os = subst (Typed env os (LenE x)) h.0 (one env os x TextTy IntTy Len (leads env x TextTy h.1 a l os) refl (omega (arith, at_least P.types (length env) x, l)))
     leads env (AuthE c x) t h a l os =
         subst (Typed env os (AuthE c x)) h.0
-        (one env os x c (AuthTy c) (Auth c) (leads env x c h.1 a l os) (ap (λ b. option_and_then (λ under. next env (AuthTy c ∷ under)) (if b then Some os else None)) (same_self c)) (omega (arith, at_least P.types (length env) x, l)))
+        (one env os x c (AuthTy c) (Auth c) (leads env x c h.1 a l os)
+        (ap (λ b. option_and_then (λ under. next env (AuthTy c ∷ under)) (if b then Some os else None)) (same_self c)) (omega (arith, at_least P.types (length env) x, l)))
     leads env (UnauthE c x) t h a l os =
         subst (Typed env os (UnauthE c x)) h.0
-        (one env os x (AuthTy c) c (Unauth c) (leads env x (AuthTy c) h.1 a l os) (ap (λ b. option_and_then (λ under. next env (c ∷ under)) (if b then Some os else None)) (same_self c)) (omega (arith, at_least P.types (length env) x, l)))
+        (one env os x (AuthTy c) c (Unauth c) (leads env x (AuthTy c) h.1 a l os)
+        (ap (λ b. option_and_then (λ under. next env (c ∷ under)) (if b then Some os else None)) (same_self c)) (omega (arith, at_least P.types (length env) x, l)))
     leads env (ConE number tag xs) t h a l os =
         let r = on_fields P.types (λ t v. true) (fields_at P.types number tag) (λ ts. HaveTypes P env xs ts) h.1 in
         let ts = r.0 in

@@ -9,7 +9,13 @@ use Rattle.core_terms.specs.Bodies.{FunctionCode}
 use Rattle.object_meaning.specs.WrittenObjects.{place_of, number_in, once, with_type, with_types, types_named, with_instructions, with_functions, named_from, with_fields, with_all_fields}
 use Rattle.object_meaning.specs.ClosedPrograms.{IsClosed, AreClosed, FieldsAreClosed, TableIsClosed, IsClosedAt, CodeIsClosed, FunctionsAreClosed}
 
-some_is : {A : Type 0} {a b : A} → Some a ≡ Some b → a ≡ b
+pub some_none : {A : Type 0} {a : A} → Some a ≡ None → ⊥
+some_none e = cc
+
+pub none_some : {A : Type 0} {a : A} → None ≡ Some a → ⊥
+none_some e = cc
+
+pub some_is : {A : Type 0} {a b : A} → Some a ≡ Some b → a ≡ b
 some_is e = cc
 
 unequal : (a b : ℕ) → (a ≡ b → ⊥) → nat_eq a b ≡ false

@@ -199,7 +199,11 @@ pub objects_are_code : (P : Program) (names : List (List (List ℕ))) → P.form
 objects_are_code P names e c =
     let h = program_listed P c in
     let types = types_written P in
-    let build : ℕ → List Ty → Body = λ limit trees. record { limit = limit; types = named_tables trees (map (type_written types P.types names) types); functions = map (function_in trees) (map (function_written types P.types) P.functions) } in
+    let build : ℕ → List Ty → Body = λ limit trees. record {
+      limit = limit;
+      types = named_tables trees (map (type_written types P.types names) types);
+      functions = map (function_in trees) (map (function_written types P.types) P.functions);
+    } in
     ap (build object_format.limit) (trees_back P.types names types h.listing)
     ∙ ap (λ limit. build limit types) (sym e)
     ∙ ap₂ (λ t fs. record { limit = P.format.limit; types = t; functions = fs }) (table_back P.types names types h.listing h.fields) (functions_back P.types names types h.listing P.functions h.functions c.functions)

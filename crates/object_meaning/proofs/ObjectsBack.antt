@@ -224,7 +224,8 @@ module _ (types : List ListedType) (functions : ℕ) (few : length types ≤ 100
   reads_operands i n Snd h m = reads_nothing Snd
   reads_operands i n (Make ty tag) h m =
       reads_then (u32 (is_named types)) _ (word ty) (tag ∷ []) ty (Make ty tag) (reads_named ty h.0 h.1)
-      (reads_as (Make ty) (u8 (λ tag. nat_lt tag (length (constructors_of types ty)))) (tag ∷ []) tag (reads_u8 (λ tag. nat_lt tag (length (constructors_of types ty))) tag (lt-ltb tag (length (constructors_of types ty)) h.2)))
+      (reads_as (Make ty) (u8 (λ tag. nat_lt tag (length (constructors_of types ty)))) (tag ∷ []) tag
+      (reads_u8 (λ tag. nat_lt tag (length (constructors_of types ty))) tag (lt-ltb tag (length (constructors_of types ty)) h.2)))
   reads_operands i n (Switch ty targets) h m =
       reads_then (u32 (is_named types)) _ (word ty) (words targets) ty (Switch ty targets) (reads_named ty h.0 h.1)
       (reads_as (Switch ty) (times (length (constructors_of types ty)) (u32 (λ t. nat_lt i t && nat_lt t n))) (words targets) targets

@@ -59,7 +59,8 @@ ends_last : {A : Type 0} (before : List ℕ → List ℕ) (spell : A → List �
 ends_last before spell P all read f g bytes h place a rest p e = let k = f bytes h place a rest p e in (ap before k.0 ∙ g a k.1 rest, k.2)
 
 -- FIELDS
-spells_field : (n : ℕ) (number : List ℕ → ℕ) (test : ℕ → Bool) (spell : ℕ → List ℕ) → ((bs : List ℕ) → length bs ≡ n → AreBytes bs → spell (number bs) ≡ bs) → Spells spell (λ x. test x ≡ true) (field n number test)
+spells_field : (n : ℕ) (number : List ℕ → ℕ) (test : ℕ → Bool) (spell : ℕ → List ℕ)
+    → ((bs : List ℕ) → length bs ≡ n → AreBytes bs → spell (number bs) ≡ bs) → Spells spell (λ x. test x ≡ true) (field n number test)
 spells_field n number test spell g bytes h place x rest p e = by (nat_lt (length bytes) n) refl (test (number (take n bytes))) refl e
   where
     by : (b : Bool) → nat_lt (length bytes) n ≡ b → (c : Bool) → test (number (take n bytes)) ≡ c
@@ -90,6 +91,19 @@ spells_u32 test = spells_field 4 (from_be_bytes w32) test word (λ bs l h. be_by
 spells_word : (test : ℕ → Bool) → Spells word Anything (u32 test)
 spells_word test = spells_other word word (λ x. test x ≡ true) Anything (u32 test) (λ a t. (refl, tt)) (spells_u32 test)
 
+-- a field, and what is read behind it
+u8_then : {B : Type 0} (before : List ℕ → List ℕ) (test : ℕ → Bool) (all : B → List ℕ) (go : ℕ → Reader B)
+    → ((n : ℕ) → test n ≡ true → Ends (λ l. before (n ∷ l)) all (go n)) → Ends before all (λ bytes place. then_take (u8 test bytes place) go)
+u8_then before test all go g = ends_then before (λ n. n ∷ []) (λ n. test n ≡ true) all (u8 test) go (spells_u8 test) g
+
+u16_then : {B : Type 0} (before : List ℕ → List ℕ) (test : ℕ → Bool) (all : B → List ℕ) (go : ℕ → Reader B)
+    → ((n : ℕ) → Ends (λ l. before (to_be_bytes w16 n ++ l)) all (go n)) → Ends before all (λ bytes place. then_take (u16 test bytes place) go)
+u16_then before test all go g = ends_then before (to_be_bytes w16) (λ n. test n ≡ true) all (u16 test) go (spells_u16 test) (λ n h. g n)
+
+word_then : {B : Type 0} (before : List ℕ → List ℕ) (test : ℕ → Bool) (all : B → List ℕ) (go : ℕ → Reader B)
+    → ((n : ℕ) → Ends (λ l. before (word n ++ l)) all (go n)) → Ends before all (λ bytes place. then_take (u32 test bytes place) go)
+word_then before test all go g = ends_then before word (λ n. test n ≡ true) all (u32 test) go (spells_u32 test) (λ n h. g n)
+
 pub spells_text : (offset : ℕ) (test : List ℕ → Bool) (n : ℕ) → Spells (λ text. text) (λ text. length text ≡ n) (text_behind offset test n)
 spells_text offset test n bytes h place x rest p e = by (nat_lt (length bytes) n) refl (test (take n bytes)) e
   where
@@ -103,18 +117,25 @@ spells_text offset test n bytes h place x rest p e = by (nat_lt (length bytes) n
     by false l false e = absurd (cc (e))
 
 -- as many as said
-spells_times : {A : Type 0} (spell : A → List ℕ) (one : ℕ → Reader A) → ((i : ℕ) → Spells spell Anything (one i)) → (i n : ℕ) → Spells (bytes_of_all spell) (λ items. length items ≡ n) (times_from i n one)
+abbrev AllSpelled : {A : Type 0} → (A → List ℕ) → ℕ → List ℕ → List ℕ → List A → Type 0
+AllSpelled spell n bytes rest items = (bytes ≡ bytes_of_all spell items ++ rest) × (length items ≡ n) × AreBytes rest
+
+spells_times : {A : Type 0} (spell : A → List ℕ) (one : ℕ → Reader A) → ((i : ℕ) → Spells spell Anything (one i))
+    → (i n : ℕ) → Spells (bytes_of_all spell) (λ items. length items ≡ n) (times_from i n one)
 spells_times spell one f i zero bytes h place items rest p e =
     let left : bytes ≡ rest = taken_rest [] items bytes rest place p e in
-    subst (λ items. (bytes ≡ bytes_of_all spell items ++ rest) × (length items ≡ 0) × AreBytes rest) (taken_is [] items bytes rest place p e) (left, refl, subst AreBytes left h)
+    subst (AllSpelled spell 0 bytes rest) (taken_is [] items bytes rest place p e) (left, refl, subst AreBytes left h)
 spells_times spell one f i (suc n) bytes h place items rest p e =
-    taken_then ((bytes ≡ bytes_of_all spell items ++ rest) × (length items ≡ suc n) × AreBytes rest) (one i bytes place) (λ a bytes place. taken_as (λ more. a ∷ more) (times_from (suc i) n one bytes place)) items rest p e (λ a r q t k.
-    taken_then ((bytes ≡ bytes_of_all spell items ++ rest) × (length items ≡ suc n) × AreBytes rest) (times_from (suc i) n one r q) (λ more rest place. Took (a ∷ more) rest place) items rest p k (λ more s u t' k'.
+    taken_then (AllSpelled spell (suc n) bytes rest items) (one i bytes place) (λ a bytes place. taken_as (λ more. a ∷ more) (times_from (suc i) n one bytes place)) items rest p e (λ a r q t k.
+    taken_then (AllSpelled spell (suc n) bytes rest items) (times_from (suc i) n one r q) (λ more rest place. Took (a ∷ more) rest place) items rest p k (λ more s u t' k'.
     let first = f i bytes h place a r q t in
     let second = spells_times spell one f (suc i) n r first.2 q more s u t' in
     let left : s ≡ rest = taken_rest (a ∷ more) items s rest u p k' in
-    subst (λ items. (bytes ≡ bytes_of_all spell items ++ rest) × (length items ≡ suc n) × AreBytes rest) (taken_is (a ∷ more) items s rest u p k')
-    (first.0 ∙ ap (λ l. spell a ++ l) (second.0 ∙ ap (λ l. bytes_of_all spell more ++ l) left) ∙ sym (append_assoc (spell a) (bytes_of_all spell more) rest), ap suc second.1, subst AreBytes left second.2)))
+    subst (AllSpelled spell (suc n) bytes rest) (taken_is (a ∷ more) items s rest u p k') (
+      first.0 ∙ ap (λ l. spell a ++ l) (second.0 ∙ ap (λ l. bytes_of_all spell more ++ l) left) ∙ sym (append_assoc (spell a) (bytes_of_all spell more) rest),
+      ap suc second.1,
+      subst AreBytes left second.2,
+    )))
 
 all_bytes_more : {A : Type 0} (spell : A → List ℕ) (items : List A) (a : A) → bytes_of_all spell (items ++ a ∷ []) ≡ bytes_of_all spell items ++ spell a
 all_bytes_more spell [] a = append-nil (spell a)
@@ -123,13 +144,13 @@ all_bytes_more spell (b ∷ items) a = ap (λ l. spell b ++ l) (all_bytes_more s
 -- each read by those before it
 behind_ends : {A : Type 0} (spell : A → List ℕ) (one : List A → Reader A) → ((before : List A) → Spells spell Anything (one before)) → (before : List A) (n : ℕ)
     → (bytes : List ℕ) → AreBytes bytes → (place : ℕ) (items : List A) (rest : List ℕ) (p : ℕ) → times_behind before n one bytes place ≡ Took items rest p
-    → (bytes_of_all spell before ++ bytes ≡ bytes_of_all spell items ++ rest) × (length items ≡ length before + n) × AreBytes rest
+    → AllSpelled spell (length before + n) (bytes_of_all spell before ++ bytes) rest items
 behind_ends spell one f before zero bytes h place items rest p e =
     let left : bytes ≡ rest = taken_rest before items bytes rest place p e in
-    subst (λ items. (bytes_of_all spell before ++ bytes ≡ bytes_of_all spell items ++ rest) × (length items ≡ length before + 0) × AreBytes rest) (taken_is before items bytes rest place p e)
+    subst (AllSpelled spell (length before + 0) (bytes_of_all spell before ++ bytes) rest) (taken_is before items bytes rest place p e)
     (ap (λ l. bytes_of_all spell before ++ l) left, omega arith, subst AreBytes left h)
 behind_ends spell one f before (suc n) bytes h place items rest p e =
-    taken_then ((bytes_of_all spell before ++ bytes ≡ bytes_of_all spell items ++ rest) × (length items ≡ length before + suc n) × AreBytes rest) (one before bytes place)
+    taken_then (AllSpelled spell (length before + suc n) (bytes_of_all spell before ++ bytes) rest items) (one before bytes place)
     (λ a bytes place. times_behind (before ++ a ∷ []) n one bytes place) items rest p e (λ a r q t k.
     let first = f before bytes h place a r q t in
     let second = behind_ends spell one f (before ++ a ∷ []) n r first.2 q items rest p k in (
@@ -138,7 +159,8 @@ behind_ends spell one f before (suc n) bytes h place items rest p e =
       second.2,
     ))
 
-spells_behind : {A : Type 0} (spell : A → List ℕ) (one : List A → Reader A) → ((before : List A) → Spells spell Anything (one before)) → (n : ℕ) → Spells (bytes_of_all spell) (λ items. length items ≡ n) (times_behind [] n one)
+spells_behind : {A : Type 0} (spell : A → List ℕ) (one : List A → Reader A) → ((before : List A) → Spells spell Anything (one before))
+    → (n : ℕ) → Spells (bytes_of_all spell) (λ items. length items ≡ n) (times_behind [] n one)
 spells_behind spell one f n bytes h place items rest p e = let k = behind_ends spell one f [] n bytes h place items rest p e in (k.0, k.1 ∙ omega arith, k.2)
 
 -- one of these, by a number before it
@@ -156,8 +178,9 @@ spells_name : (form : List ℕ → Bool) (before : List (List ℕ)) → Spells n
 spells_name form before bytes h place name rest p e =
     let test : List ℕ → Bool = λ name. form name && not (is_among name before) in
     spelled name_bytes (λ bytes behind. then_take (u8 any bytes behind) (λ n bytes behind. text_behind place test n bytes behind))
-    (ends_then (λ l. l) (λ n. n ∷ []) (λ n. any n ≡ true) name_bytes (u8 any) (λ n bytes behind. text_behind place test n bytes behind) (spells_u8 any) (λ n k.
-    ends_last (λ l. n ∷ l) (λ text. text) (λ text. length text ≡ n) name_bytes (text_behind place test n) (spells_text place test n) (λ text l rest. ap (λ n. n ∷ (text ++ rest)) (sym l)))) bytes h place name rest p e
+    (u8_then (λ l. l) any name_bytes (λ n bytes behind. text_behind place test n bytes behind) (λ n k.
+    ends_last (λ l. n ∷ l) (λ text. text) (λ text. length text ≡ n) name_bytes (text_behind place test n) (spells_text place test n)
+    (λ text l rest. ap (λ n. n ∷ (text ++ rest)) (sym l)))) bytes h place name rest p e
 
 -- TYPES
 spells_words : (n : ℕ) (test : ℕ → Bool) → Spells words (λ items. length items ≡ n) (times n (u32 test))
@@ -167,16 +190,19 @@ spells_constructor : (count : ℕ) (before : List (List ℕ)) (others : List Lis
 spells_constructor count before others =
     spelled constructor_bytes (constructor_read count before others)
     (ends_then (λ l. l) name_bytes Anything constructor_bytes (name_read is_upper_name (before ++ names_of others)) _ (spells_name is_upper_name (before ++ names_of others)) (λ name h.
-    ends_then (λ l. name_bytes name ++ l) (λ n. n ∷ []) (λ n. within 0 most_fields n ≡ true) constructor_bytes (u8 (within 0 most_fields)) _ (spells_u8 (within 0 most_fields)) (λ n k.
-    ends_as (λ l. name_bytes name ++ n ∷ l) words (λ (fields : List ℕ). length fields ≡ n) constructor_bytes (λ fields. record { name = name; fields = fields }) (times n (u32 (λ t. nat_lt t count)))
-    (spells_words n (λ t. nat_lt t count))
+    u8_then (λ l. name_bytes name ++ l) (within 0 most_fields) constructor_bytes _ (λ n k.
+    ends_as (λ l. name_bytes name ++ n ∷ l) words (λ (fields : List ℕ). length fields ≡ n) constructor_bytes (λ fields. record { name = name; fields = fields })
+    (times n (u32 (λ t. nat_lt t count))) (spells_words n (λ t. nat_lt t count))
     (λ fields l rest. ap (λ n. name_bytes name ++ n ∷ (words fields ++ rest)) (sym l) ∙ sym (append_assoc (name_bytes name) (length fields ∷ words fields) rest)))))
 
-ends_new : (listed : List ListedType) (before : List ℕ → List ℕ) (offset : ℕ) (read : Reader ListedType) → Ends before type_bytes read → Ends before type_bytes (λ bytes place. new_type listed offset (read bytes place))
+ends_new : (listed : List ListedType) (before : List ℕ → List ℕ) (offset : ℕ) (read : Reader ListedType)
+    → Ends before type_bytes read → Ends before type_bytes (λ bytes place. new_type listed offset (read bytes place))
 ends_new listed before offset read f bytes h place ty rest p e =
-    taken_then ((before bytes ≡ type_bytes ty ++ rest) × AreBytes rest) (read bytes place) (λ ty bytes place. if is_listed ty listed then BadAt offset else Took ty bytes place) ty rest p e (λ a r q t k. by a r q t (is_listed a listed) k)
+    taken_then ((before bytes ≡ type_bytes ty ++ rest) × AreBytes rest) (read bytes place) (λ ty bytes place. if is_listed ty listed then BadAt offset else Took ty bytes place)
+    ty rest p e (λ a r q t k. by a r q t (is_listed a listed) k)
   where
-    by : (a : ListedType) (r : List ℕ) (q : ℕ) → read bytes place ≡ Took a r q → (b : Bool) → (if b then BadAt offset else Took a r q) ≡ Took ty rest p → (before bytes ≡ type_bytes ty ++ rest) × AreBytes rest
+    by : (a : ListedType) (r : List ℕ) (q : ℕ) → read bytes place ≡ Took a r q → (b : Bool)
+        → (if b then BadAt offset else Took a r q) ≡ Took ty rest p → (before bytes ≡ type_bytes ty ++ rest) × AreBytes rest
     by a r q t true k = absurd (cc (k))
     by a r q t false k = f bytes h place ty rest p (t ∙ k)
 
@@ -194,11 +220,13 @@ module _ (count : ℕ) (listed : List ListedType) where
         (
           ends_one (λ l. 3 ∷ l) type_bytes ListedText (λ rest. refl),
           (
-            ends_then (λ l. 4 ∷ l) word Anything type_bytes (u32 earlier) _ (spells_word earlier) (λ a h.
-                ends_as (λ l. 4 ∷ (word a ++ l)) word Anything type_bytes (ListedPair a) (u32 earlier) (spells_word earlier) (λ b k rest. ap (λ l. 4 ∷ l) (sym (append_assoc (word a) (word b) rest)))),
+            word_then (λ l. 4 ∷ l) earlier type_bytes _ (λ a.
+                ends_as (λ l. 4 ∷ (word a ++ l)) word Anything type_bytes (ListedPair a) (u32 earlier) (spells_word earlier)
+                (λ b k rest. ap (λ l. 4 ∷ l) (sym (append_assoc (word a) (word b) rest)))),
             (
-              ends_then (λ l. 5 ∷ l) (λ n. n ∷ []) (λ n. within 1 most_constructors n ≡ true) type_bytes (u8 (within 1 most_constructors)) _ (spells_u8 (within 1 most_constructors)) (λ n h.
-                  ends_as (λ l. 5 ∷ n ∷ l) (bytes_of_all constructor_bytes) (λ (cs : List ListedConstructor). length cs ≡ n) type_bytes ListedNamed (times_behind [] n (constructor_read count (all_names listed)))
+              u8_then (λ l. 5 ∷ l) (within 1 most_constructors) type_bytes _ (λ n h.
+                  ends_as (λ l. 5 ∷ n ∷ l) (bytes_of_all constructor_bytes) (λ (cs : List ListedConstructor). length cs ≡ n) type_bytes ListedNamed
+                  (times_behind [] n (constructor_read count (all_names listed)))
                   (spells_behind constructor_bytes (constructor_read count (all_names listed)) (spells_constructor count (all_names listed)) n)
                   (λ cs l rest. ap (λ n. 5 ∷ n ∷ (bytes_of_all constructor_bytes cs ++ rest)) (sym l))),
               (
@@ -214,10 +242,11 @@ module _ (count : ℕ) (listed : List ListedType) where
 
   spells_type : Spells type_bytes Anything (type_read count listed)
   spells_type bytes h place ty rest p e =
-      spelled type_bytes (λ bytes behind. then_take (u8 (is_tag listed) bytes behind) (λ tag bytes behind. new_type listed place (slice_index_or (type_readers count listed) tag nothing_read bytes behind)))
-      (ends_then (λ l. l) (λ n. n ∷ []) (λ tag. is_tag listed tag ≡ true) type_bytes (u8 (is_tag listed)) (λ tag bytes behind. new_type listed place (slice_index_or (type_readers count listed) tag nothing_read bytes behind))
-      (spells_u8 (is_tag listed)) (λ tag k.
-      ends_new listed (λ l. tag ∷ l) place (slice_index_or (type_readers count listed) tag nothing_read) (any_ends (λ n. n) type_bytes (type_readers count listed) types_end tag))) bytes h place ty rest p e
+      let go : ℕ → Reader ListedType = λ tag bytes behind. new_type listed place (slice_index_or (type_readers count listed) tag nothing_read bytes behind) in
+      spelled type_bytes (λ bytes behind. then_take (u8 (is_tag listed) bytes behind) go)
+      (u8_then (λ l. l) (is_tag listed) type_bytes go (λ tag k.
+      ends_new listed (λ l. tag ∷ l) place (slice_index_or (type_readers count listed) tag nothing_read)
+      (any_ends (λ n. n) type_bytes (type_readers count listed) types_end tag))) bytes h place ty rest p e
 
 -- INSTRUCTIONS
 bool_back : (n : ℕ) → within 0 1 n ≡ true → n ∷ [] ≡ bool_number (nat_eq n 1) ∷ []
@@ -262,7 +291,7 @@ spells_int =
 
 ends_text : Ends (λ l. 3 ∷ l) instruction_bytes text_read
 ends_text bytes h place x rest p e =
-    ends_then (λ l. 3 ∷ l) word (λ n. within 0 65532 n ≡ true) instruction_bytes (u32 (within 0 65532)) (λ n bytes behind. taken_as PushText (text_behind place is_utf8 n bytes behind)) (spells_u32 (within 0 65532)) (λ n k.
+    word_then (λ l. 3 ∷ l) (within 0 65532) instruction_bytes (λ n bytes behind. taken_as PushText (text_behind place is_utf8 n bytes behind)) (λ n.
     ends_as (λ l. 3 ∷ (word n ++ l)) (λ text. text) (λ (text : List ℕ). length text ≡ n) instruction_bytes PushText (text_behind place is_utf8 n) (spells_text place is_utf8 n)
     (λ text l rest. ap (λ n. 3 ∷ (word n ++ (text ++ rest))) (sym l) ∙ ap (λ l. 3 ∷ l) (sym (append_assoc (word (length text)) text rest)))) bytes h place x rest p e
 
@@ -303,20 +332,23 @@ module _ (types : List ListedType) (functions : ℕ) where
                         (
                           no_operand 0x09 Snd (λ rest. refl),
                           (
-                            ends_then (λ l. 0x0A ∷ l) word Anything instruction_bytes (u32 (is_named types)) _ (spells_word (is_named types)) (λ ty h.
-                                ends_as (λ l. 0x0A ∷ (word ty ++ l)) (λ n. n ∷ []) (λ tag. nat_lt tag (length (constructors_of types ty)) ≡ true) instruction_bytes (Make ty) (u8 (λ tag. nat_lt tag (length (constructors_of types ty)))) (spells_u8 (λ tag. nat_lt tag (length (constructors_of types ty))))
+                            word_then (λ l. 0x0A ∷ l) (is_named types) instruction_bytes _ (λ ty.
+                                let below : ℕ → Bool = λ tag. nat_lt tag (length (constructors_of types ty)) in
+                                ends_as (λ l. 0x0A ∷ (word ty ++ l)) (λ n. n ∷ []) (λ tag. below tag ≡ true) instruction_bytes (Make ty) (u8 below) (spells_u8 below)
                                 (λ tag k rest. ap (λ l. 0x0A ∷ l) (sym (append_assoc (word ty) (tag ∷ []) rest)))),
                             (
-                              ends_then (λ l. 0x0B ∷ l) word Anything instruction_bytes (u32 (is_named types)) _ (spells_word (is_named types)) (λ ty h.
+                              word_then (λ l. 0x0B ∷ l) (is_named types) instruction_bytes _ (λ ty.
                                   let count = length (constructors_of types ty) in
-                                  ends_as (λ l. 0x0B ∷ (word ty ++ l)) words (λ (targets : List ℕ). length targets ≡ count) instruction_bytes (Switch ty) (times count (u32 target)) (spells_words count target)
+                                  ends_as (λ l. 0x0B ∷ (word ty ++ l)) words (λ (targets : List ℕ). length targets ≡ count) instruction_bytes (Switch ty)
+                                  (times count (u32 target)) (spells_words count target)
                                   (λ targets k rest. ap (λ l. 0x0B ∷ l) (sym (append_assoc (word ty) (words targets) rest)))),
                               (
                                 four_operand 0x0C target Branch (λ n rest. refl),
                                 (
                                   four_operand 0x0D target Jump (λ n rest. refl),
                                   (
-                                    ends_as (λ l. 0x0E ∷ l) (to_be_bytes w16) (λ f. nat_lt f functions ≡ true) instruction_bytes Call (u16 (λ f. nat_lt f functions)) (spells_u16 (λ f. nat_lt f functions)) (λ f h rest. refl),
+                                    ends_as (λ l. 0x0E ∷ l) (to_be_bytes w16) (λ f. nat_lt f functions ≡ true) instruction_bytes Call
+                                        (u16 (λ f. nat_lt f functions)) (spells_u16 (λ f. nat_lt f functions)) (λ f h rest. refl),
                                     (
                                       no_operand 0x0F Return (λ rest. refl),
                                       (
@@ -328,7 +360,8 @@ module _ (types : List ListedType) (functions : ℕ) where
                                             (
                                               one_operand 0x13 (within 0 2) (λ op. CompareOp (slice_index_or compares op Eq)) (λ n h rest. ap (λ l. 0x13 ∷ (l ++ rest)) (compare_back n h)),
                                               (
-                                                one_operand 0x14 (within 0 1) (λ op. TextCompareOp (slice_index_or text_compares op TEq)) (λ n h rest. ap (λ l. 0x14 ∷ (l ++ rest)) (text_compare_back n h)),
+                                                one_operand 0x14 (within 0 1) (λ op. TextCompareOp (slice_index_or text_compares op TEq))
+                                                    (λ n h rest. ap (λ l. 0x14 ∷ (l ++ rest)) (text_compare_back n h)),
                                                 (
                                                   no_operand 0x15 Cat (λ rest. refl),
                                                   (
@@ -364,7 +397,7 @@ module _ (types : List ListedType) (functions : ℕ) where
   spells_instruction : (n i : ℕ) → Spells instruction_bytes Anything (instruction_read types functions n i)
   spells_instruction n i =
       spelled instruction_bytes (instruction_read types functions n i)
-      (ends_then (λ l. l) (λ n. n ∷ []) (λ code. within 0 23 code ≡ true) instruction_bytes (u8 (within 0 23)) _ (spells_u8 (within 0 23)) (λ code h.
+      (u8_then (λ l. l) (within 0 23) instruction_bytes _ (λ code h.
       any_ends (λ n. n) instruction_bytes (operand_readers types functions i n) (operands_end i n) code))
 
   -- FUNCTIONS
@@ -382,18 +415,19 @@ module _ (types : List ListedType) (functions : ℕ) where
   spells_function : (before : List ListedFunction) → Spells function_bytes Anything (function_read types functions before)
   spells_function before =
       spelled function_bytes (function_read types functions before)
-      (ends_then (λ l. l) kind_byte Anything function_bytes (u8 (within 0 3)) _ (spells_other (λ n. n ∷ []) kind_byte (λ n. within 0 3 n ≡ true) Anything (u8 (within 0 3)) (λ n h. (kind_back n h, tt)) (spells_u8 (within 0 3))) (λ number h0.
+      (ends_then (λ l. l) kind_byte Anything function_bytes (u8 (within 0 3)) _
+      (spells_other (λ n. n ∷ []) kind_byte (λ n. within 0 3 n ≡ true) Anything (u8 (within 0 3)) (λ n h. (kind_back n h, tt)) (spells_u8 (within 0 3))) (λ number h0.
       let kind = slice_index_or kinds number Inner in
       let k = kind_number kind in
       ends_then (λ l. k ∷ l) name_bytes Anything function_bytes (role_name_read kind before) (behind_name types functions kind) (spells_role_name kind before) (λ name h1.
       let N = name_bytes name in
-      ends_then (λ l. k ∷ (N ++ l)) (λ n. n ∷ []) (λ n. within 1 most_parameters n ≡ true) function_bytes (u8 (within 1 most_parameters)) (behind_count types functions kind name) (spells_u8 (within 1 most_parameters)) (λ count h2.
+      u8_then (λ l. k ∷ (N ++ l)) (within 1 most_parameters) function_bytes (behind_count types functions kind name) (λ count h2.
       ends_then (λ l. k ∷ (N ++ count ∷ l)) words (λ (ps : List ℕ). length ps ≡ count) function_bytes (times count (type_number types functions)) (behind_parameters types functions kind name)
       (spells_words count (λ t. nat_lt t (length types))) (λ ps few.
       let W = words ps in
-      ends_then (λ l. k ∷ (N ++ count ∷ (W ++ l))) word Anything function_bytes (type_number types functions) (behind_result types functions kind name ps) (spells_word (λ t. nat_lt t (length types))) (λ result h3.
+      word_then (λ l. k ∷ (N ++ count ∷ (W ++ l))) (λ t. nat_lt t (length types)) function_bytes (behind_result types functions kind name ps) (λ result.
       let R = word result in
-      ends_then (λ l. k ∷ (N ++ count ∷ (W ++ (R ++ l)))) word Anything function_bytes (u32 (nat_le 1)) (behind_length types functions kind name ps result) (spells_word (nat_le 1)) (λ n h4.
+      word_then (λ l. k ∷ (N ++ count ∷ (W ++ (R ++ l)))) (nat_le 1) function_bytes (behind_length types functions kind name ps result) (λ n.
       ends_as (λ l. k ∷ (N ++ count ∷ (W ++ (R ++ (word n ++ l))))) (bytes_of_all instruction_bytes) (λ (code : List Instruction). length code ≡ n) function_bytes
       (λ code. record { kind = kind; name = name; parameters = ps; result = result; code = code }) (times_from 0 n (instruction_read types functions n))
       (spells_times instruction_bytes (instruction_read types functions n) (spells_instruction n) 0 n)
@@ -415,21 +449,24 @@ spells_magic bytes h place x rest p e = by (nat_lt (length bytes) 4) (bytes_eq (
         → (bytes ≡ object_magic ++ rest) × Unit {0} × AreBytes rest
     by true c s e = absurd (cc (e))
     by false true s e =
-        let left : drop 4 bytes ≡ rest = taken_rest 0 x (drop 4 bytes) rest (place + 4) p e in
-        (sym (take-append-drop 4 bytes) ∙ ap (λ l. l ++ drop 4 bytes) ((bytes_eq-Decides (take 4 bytes) object_magic).0 s) ∙ ap (λ l. object_magic ++ l) left, tt, subst AreBytes left (bytes_drop 4 bytes h))
+        let left : drop 4 bytes ≡ rest = taken_rest 0 x (drop 4 bytes) rest (place + 4) p e in (
+          sym (take-append-drop 4 bytes) ∙ ap (λ l. l ++ drop 4 bytes) ((bytes_eq-Decides (take 4 bytes) object_magic).0 s) ∙ ap (λ l. object_magic ++ l) left,
+          tt,
+          subst AreBytes left (bytes_drop 4 bytes h),
+        )
     by false false s e = absurd (cc (e))
 
 spells_object : Spells object_bytes Anything object_read
 spells_object =
     spelled object_bytes object_read
     (ends_then (λ l. l) (λ n. object_magic) Anything object_bytes magic_read behind_magic spells_magic (λ magic h0.
-    ends_then (λ l. object_magic ++ l) word Anything object_bytes (u32 (within 0 most_listed_types)) behind_type_count (spells_word (within 0 most_listed_types)) (λ count h1.
-    ends_then (λ l. object_magic ++ (word count ++ l)) (bytes_of_all type_bytes) (λ (types : List ListedType). length types ≡ count) object_bytes (times_behind [] count (type_read count)) (behind_types count)
-    (spells_behind type_bytes (type_read count) (spells_type count) count) (λ types long.
+    word_then (λ l. object_magic ++ l) (within 0 most_listed_types) object_bytes behind_type_count (λ count.
+    ends_then (λ l. object_magic ++ (word count ++ l)) (bytes_of_all type_bytes) (λ (types : List ListedType). length types ≡ count) object_bytes
+    (times_behind [] count (type_read count)) (behind_types count) (spells_behind type_bytes (type_read count) (spells_type count) count) (λ types long.
     let T = bytes_of_all type_bytes types in
-    ends_then (λ l. object_magic ++ (word count ++ (T ++ l))) word Anything object_bytes (u32 (λ t. nat_lt t count)) (behind_state types) (spells_word (λ t. nat_lt t count)) (λ state h2.
+    word_then (λ l. object_magic ++ (word count ++ (T ++ l))) (λ t. nat_lt t count) object_bytes (behind_state types) (λ state.
     let S = word state in
-    ends_then (λ l. object_magic ++ (word count ++ (T ++ (S ++ l)))) (to_be_bytes w16) (λ n. within 0 most_functions n ≡ true) object_bytes (u16 (within 0 most_functions)) (behind_function_count types state) (spells_u16 (within 0 most_functions)) (λ n h3.
+    u16_then (λ l. object_magic ++ (word count ++ (T ++ (S ++ l)))) (within 0 most_functions) object_bytes (behind_function_count types state) (λ n.
     ends_as (λ l. object_magic ++ (word count ++ (T ++ (S ++ (to_be_bytes w16 n ++ l))))) (bytes_of_all function_bytes) (λ (fs : List ListedFunction). length fs ≡ n) object_bytes
     (λ functions. record { types = types; state = state; functions = functions }) (times_behind [] n (function_read types n))
     (spells_behind function_bytes (function_read types n) (spells_function types n) n)

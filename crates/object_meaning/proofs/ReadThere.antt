@@ -165,7 +165,8 @@ module _ (types : List ListedType) (functions : ℕ) where
                       (
                         gives_then (There functions) (u32 (is_named types)) _ (λ ty. gives_taken (There functions) (Make ty) (u8 (λ tag. nat_lt tag (length (constructors_of types ty)))) (λ tag. tt)),
                         (
-                          gives_then (There functions) (u32 (is_named types)) _ (λ ty. gives_taken (There functions) (Switch ty) (times (length (constructors_of types ty)) (u32 (λ t. nat_lt i t && nat_lt t n))) (λ targets. tt)),
+                          gives_then (There functions) (u32 (is_named types)) _ (λ ty.
+                              gives_taken (There functions) (Switch ty) (times (length (constructors_of types ty)) (u32 (λ t. nat_lt i t && nat_lt t n))) (λ targets. tt)),
                           (
                             gives_taken (There functions) Branch (u32 (λ t. nat_lt i t && nat_lt t n)) (λ t. tt),
                             (

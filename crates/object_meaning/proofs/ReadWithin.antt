@@ -75,7 +75,8 @@ keeps_text offset test n bytes place x rest p e = by (nat_lt (length bytes) n) (
         (subst (λ y. test y ≡ true) (taken_is (take n bytes) x (drop n bytes) rest (place + n) p e) t, omega (arith, left, length-drop n bytes))
     by false false t e = absurd (cc (e))
 
-keeps_then : {A B : Type 0} (P : A → Type 0) (Q : B → Type 0) (read : Reader A) (go : A → Reader B) → Keeps P read → ((a : A) → P a → Keeps Q (go a)) → Keeps Q (λ bytes place. then_take (read bytes place) go)
+keeps_then : {A B : Type 0} (P : A → Type 0) (Q : B → Type 0) (read : Reader A) (go : A → Reader B)
+    → Keeps P read → ((a : A) → P a → Keeps Q (go a)) → Keeps Q (λ bytes place. then_take (read bytes place) go)
 keeps_then P Q read go f g bytes place b rest p e =
     taken_then (Q b × (length rest ≤ length bytes)) (read bytes place) go b rest p e (λ a r q t h.
     let first = f bytes place a r q t in
@@ -93,14 +94,35 @@ costs_then P size Q read go f g bytes place b rest p e =
     let second = g a first.0 r q b rest p h in
     (second.0, omega (arith, first.1, second.1)))
 
-costs_as : {A B : Type 0} (size : A → ℕ) (larger : B → ℕ) (P : A → Type 0) (Q : B → Type 0) (h : A → B) (read : Reader A) → Costs size P read → ((a : A) → P a → Q (h a) × (larger (h a) ≡ size a))
-    → Costs larger Q (λ bytes place. taken_as h (read bytes place))
+costs_as : {A B : Type 0} (size : A → ℕ) (larger : B → ℕ) (P : A → Type 0) (Q : B → Type 0) (h : A → B) (read : Reader A)
+    → Costs size P read → ((a : A) → P a → Q (h a) × (larger (h a) ≡ size a)) → Costs larger Q (λ bytes place. taken_as h (read bytes place))
 costs_as size larger P Q h read f g bytes place b rest p e =
     taken_then (Q b × (larger b + length rest ≤ length bytes)) (read bytes place) (λ a rest place. Took (h a) rest place) b rest p e (λ a r q t k.
     let got = f bytes place a r q t in
     let so = g a got.0 in
     let left : length r ≡ length rest = ap length (taken_rest (h a) b r rest q p k) in
     subst (λ b. Q b × (larger b + length rest ≤ length bytes)) (taken_is (h a) b r rest q p k) (so.0, omega (arith, got.1, so.1, left)))
+
+-- a field, and what is read behind it
+keeps_u8_then : {B : Type 0} (Q : B → Type 0) (test : ℕ → Bool) (go : ℕ → Reader B) → ((n : ℕ) → test n ≡ true → Keeps Q (go n))
+    → Keeps Q (λ bytes place. then_take (u8 test bytes place) go)
+keeps_u8_then Q test go g = keeps_then (λ n. test n ≡ true) Q (u8 test) go (keeps_u8 test) g
+
+keeps_u32_then : {B : Type 0} (Q : B → Type 0) (test : ℕ → Bool) (go : ℕ → Reader B) → ((n : ℕ) → test n ≡ true → Keeps Q (go n))
+    → Keeps Q (λ bytes place. then_take (u32 test bytes place) go)
+keeps_u32_then Q test go g = keeps_then (λ n. test n ≡ true) Q (u32 test) go (keeps_u32 test) g
+
+costs_u8_then : {B : Type 0} (size : B → ℕ) (Q : B → Type 0) (test : ℕ → Bool) (go : ℕ → Reader B) → ((n : ℕ) → test n ≡ true → Costs size Q (go n))
+    → Costs size Q (λ bytes place. then_take (u8 test bytes place) go)
+costs_u8_then size Q test go g = costs_then (λ n. test n ≡ true) size Q (u8 test) go (keeps_u8 test) g
+
+costs_u16_then : {B : Type 0} (size : B → ℕ) (Q : B → Type 0) (test : ℕ → Bool) (go : ℕ → Reader B) → ((n : ℕ) → test n ≡ true → Costs size Q (go n))
+    → Costs size Q (λ bytes place. then_take (u16 test bytes place) go)
+costs_u16_then size Q test go g = costs_then (λ n. test n ≡ true) size Q (u16 test) go (keeps_u16 test) g
+
+costs_u32_then : {B : Type 0} (size : B → ℕ) (Q : B → Type 0) (test : ℕ → Bool) (go : ℕ → Reader B) → ((n : ℕ) → test n ≡ true → Costs size Q (go n))
+    → Costs size Q (λ bytes place. then_take (u32 test bytes place) go)
+costs_u32_then size Q test go g = costs_then (λ n. test n ≡ true) size Q (u32 test) go (keeps_u32 test) g
 
 -- as many as said
 keeps_times : {A : Type 0} (P : A → Type 0) (one : ℕ → Reader A) → ((i : ℕ) → Keeps P (one i)) → (i n : ℕ) → Keeps (λ items. length items ≡ n) (times_from i n one)
@@ -111,9 +133,12 @@ keeps_times P one f i (suc n) =
 
 costs_times : {A : Type 0} (P : A → Type 0) (one : ℕ → Reader A) → ((i : ℕ) → Costs (λ a. 1) P (one i)) → (i n : ℕ) → Costs (λ items. length items) Anything (times_from i n one)
 costs_times P one f i zero bytes place items rest p e =
-    (tt, let none : 0 ≡ length items = ap length (taken_is [] items bytes rest place p e) in let left : length bytes ≡ length rest = ap length (taken_rest [] items bytes rest place p e) in omega (arith, none, left))
+    let none : 0 ≡ length items = ap length (taken_is [] items bytes rest place p e) in
+    let left : length bytes ≡ length rest = ap length (taken_rest [] items bytes rest place p e) in
+    (tt, omega (arith, none, left))
 costs_times P one f i (suc n) bytes place items rest p e =
-    taken_then (Anything items × (length items + length rest ≤ length bytes)) (one i bytes place) (λ a bytes place. taken_as (λ more. a ∷ more) (times_from (suc i) n one bytes place)) items rest p e (λ a r q t h.
+    taken_then (Anything items × (length items + length rest ≤ length bytes)) (one i bytes place)
+    (λ a bytes place. taken_as (λ more. a ∷ more) (times_from (suc i) n one bytes place)) items rest p e (λ a r q t h.
     taken_then (Anything items × (length items + length rest ≤ length bytes)) (times_from (suc i) n one r q) (λ more rest place. Took (a ∷ more) rest place) items rest p h (λ more s u k l.
     let first = f i bytes place a r q t in
     let second = costs_times P one f (suc i) n r q more s u k in
@@ -126,7 +151,8 @@ keeps_behind : {A : Type 0} (I : List A → Type 0) (one : List A → Reader A) 
     → Keeps (λ items. I items × (length items ≡ length before + n)) (times_behind before n one)
 keeps_behind I one f before zero h bytes place items rest p e = keeps_one (λ items. I items × (length items ≡ length before + 0)) before (h, omega arith) bytes place items rest p e
 keeps_behind I one f before (suc n) h bytes place items rest p e =
-    keeps_then (λ a. I (before ++ a ∷ [])) (λ items. I items × (length items ≡ length before + suc n)) (one before) (λ a bytes place. times_behind (before ++ a ∷ []) n one bytes place) (f before h)
+    keeps_then (λ a. I (before ++ a ∷ [])) (λ items. I items × (length items ≡ length before + suc n)) (one before)
+    (λ a bytes place. times_behind (before ++ a ∷ []) n one bytes place) (f before h)
     (λ a i bytes place items rest p e.
     let k = keeps_behind I one f (before ++ a ∷ []) n i bytes place items rest p e in
     ((k.0.0, k.0.1 ∙ omega (arith, length-append before (a ∷ []))), k.1)) bytes place items rest p e
@@ -146,12 +172,13 @@ any_keeps Q test (read ∷ reads) h (suc n) t bytes place b rest p e = any_keeps
 name_fits : (starts : ℕ → Bool) (name : List ℕ) → is_name_from starts name ≡ true → IsName name
 name_fits starts [] e = absurd (cc (e))
 name_fits starts (b ∷ rest) e =
-    (omega arith, leb-true (length (b ∷ rest)) longest_name (second_of (list_all is_name_byte rest) (nat_le (length (b ∷ rest)) longest_name) (second_of (starts b) (list_all is_name_byte rest && nat_le (length (b ∷ rest)) longest_name) e)))
+    let few = nat_le (length (b ∷ rest)) longest_name in
+    (omega arith, leb-true (length (b ∷ rest)) longest_name (second_of (list_all is_name_byte rest) few (second_of (starts b) (list_all is_name_byte rest && few) e)))
 
 keeps_name : (form : List ℕ → Bool) (before : List (List ℕ)) → Keeps (λ name. form name ≡ true) (name_read form before)
 keeps_name form before bytes place name rest p e =
     let test : List ℕ → Bool = λ name. form name && not (is_among name before) in
-    keeps_then (λ n. any n ≡ true) (λ name. form name ≡ true) (u8 any) (λ n bytes behind. text_behind place test n bytes behind) (keeps_u8 any) (λ n h bytes behind name rest p e.
+    keeps_u8_then (λ name. form name ≡ true) any (λ n bytes behind. text_behind place test n bytes behind) (λ n h bytes behind name rest p e.
     let k = keeps_text place test n bytes behind name rest p e in
     (first_of (form name) (not (is_among name before)) k.0, k.1)) bytes place name rest p e
 
@@ -183,7 +210,7 @@ named_more (ListedAuth a ∷ before) t = named_more before t
 keeps_constructor : (count : ℕ) (before : List (List ℕ)) (others : List ListedConstructor) → Keeps ConstructorWithin (constructor_read count before others)
 keeps_constructor count before others =
     keeps_then (λ name. is_upper_name name ≡ true) ConstructorWithin (name_read is_upper_name (before ++ names_of others)) _ (keeps_name is_upper_name (before ++ names_of others)) (λ name h.
-    keeps_then (λ n. within 0 most_fields n ≡ true) ConstructorWithin (u8 (within 0 most_fields)) _ (keeps_u8 (within 0 most_fields)) (λ n k.
+    keeps_u8_then ConstructorWithin (within 0 most_fields) _ (λ n k.
     keeps_as (λ (fields : List ℕ). length fields ≡ n) ConstructorWithin (λ fields. record { name = name; fields = fields }) (times n (u32 (λ t. nat_lt t count)))
     (keeps_times (λ t. nat_lt t count ≡ true) (λ i. u32 (λ t. nat_lt t count)) (λ i. keeps_u32 (λ t. nat_lt t count)) 0 n)
     (λ fields l. (name_fits is_ascii_uppercase name h, subst (λ n. n ≤ most_fields) (sym l) (within_most 0 most_fields n k)))))
@@ -192,7 +219,8 @@ keeps_constructor count before others =
 keeps_new : (Q : ListedType → Type 0) (before : List ListedType) (offset : ℕ) (read : Reader ListedType) → Keeps Q read → Keeps Q (λ bytes place. new_type before offset (read bytes place))
 keeps_new Q before offset read f = keeps_then Q Q read _ f (λ ty h bytes place t rest p e. by ty h bytes place t rest p (is_listed ty before) e)
   where
-    by : (ty : ListedType) → Q ty → (bytes : List ℕ) (place : ℕ) (t : ListedType) (rest : List ℕ) (p : ℕ) → (b : Bool) → (if b then BadAt offset else Took ty bytes place) ≡ Took t rest p → Q t × (length rest ≤ length bytes)
+    by : (ty : ListedType) → Q ty → (bytes : List ℕ) (place : ℕ) (t : ListedType) (rest : List ℕ) (p : ℕ) → (b : Bool)
+        → (if b then BadAt offset else Took ty bytes place) ≡ Took t rest p → Q t × (length rest ≤ length bytes)
     by ty h bytes place t rest p true e = absurd (cc (e))
     by ty h bytes place t rest p false e = keeps_one Q ty h bytes place t rest p e
 
@@ -203,14 +231,24 @@ module _ (count : ℕ) (before : List ListedType) (few : named_count before ≤ 
   no_more : named_count before + 0 ≤ most_types
   no_more = omega (arith, few)
 
-  keeps_earlier : Keeps (λ t. nat_lt t (length before) ≡ true) (u32 (λ t. nat_lt t (length before)))
-  keeps_earlier = keeps_u32 (λ t. nat_lt t (length before))
+  abbrev earlier : ℕ → Bool
+  earlier t = nat_lt t (length before)
 
-  keeps_named : is_tag before 5 ≡ true → Keeps OneMore (λ bytes place. then_take (u8 (within 1 most_constructors) bytes place) (λ n bytes place. taken_as ListedNamed (times_behind [] n (constructor_read count (all_names before)) bytes place)))
+  abbrev constructors : ℕ → Reader (List ListedConstructor)
+  constructors n = times_behind [] n (constructor_read count (all_names before))
+
+  keeps_pair : Keeps OneMore (λ bytes place. then_take (u32 earlier bytes place) (λ a bytes place. taken_as (ListedPair a) (u32 earlier bytes place)))
+  keeps_pair = keeps_u32_then OneMore earlier _ (λ a h. keeps_as (λ t. earlier t ≡ true) OneMore (ListedPair a) (u32 earlier) (keeps_u32 earlier) (λ b k. (no_more, tt)))
+
+  keeps_auth : Keeps OneMore (λ bytes place. taken_as ListedAuth (u32 earlier bytes place))
+  keeps_auth = keeps_as (λ t. earlier t ≡ true) OneMore ListedAuth (u32 earlier) (keeps_u32 earlier) (λ a h. (no_more, tt))
+
+  keeps_named : is_tag before 5 ≡ true
+      → Keeps OneMore (λ bytes place. then_take (u8 (within 1 most_constructors) bytes place) (λ n bytes place. taken_as ListedNamed (constructors n bytes place)))
   keeps_named t =
       let room : named_count before < most_types = ltb-true (named_count before) most_types t in
-      keeps_then (λ n. within 1 most_constructors n ≡ true) OneMore (u8 (within 1 most_constructors)) _ (keeps_u8 (within 1 most_constructors)) (λ n h.
-      keeps_as (λ cs. AllOf ConstructorWithin cs × (length cs ≡ 0 + n)) OneMore ListedNamed (times_behind [] n (constructor_read count (all_names before)))
+      keeps_u8_then OneMore (within 1 most_constructors) _ (λ n h.
+      keeps_as (λ cs. AllOf ConstructorWithin cs × (length cs ≡ 0 + n)) OneMore ListedNamed (constructors n)
       (keeps_behind (AllOf ConstructorWithin) (constructor_read count (all_names before)) (λ others i bytes place c rest p e.
       let k = keeps_constructor count (all_names before) others bytes place c rest p e in
       (all_append ConstructorWithin others c i k.0, k.1)) [] n tt)
@@ -228,11 +266,11 @@ module _ (count : ℕ) (before : List ListedType) (few : named_count before ≤ 
         (
           (λ t. keeps_one OneMore ListedText (no_more, tt)),
           (
-            (λ t. keeps_then (λ t. nat_lt t (length before) ≡ true) OneMore (u32 (λ t. nat_lt t (length before))) _ keeps_earlier (λ a h. keeps_as (λ t. nat_lt t (length before) ≡ true) OneMore (ListedPair a) (u32 (λ t. nat_lt t (length before))) keeps_earlier (λ b k. (no_more, tt)))),
+            (λ t. keeps_pair),
             (
               keeps_named,
               (
-                (λ t. keeps_as (λ t. nat_lt t (length before) ≡ true) OneMore ListedAuth (u32 (λ t. nat_lt t (length before))) keeps_earlier (λ a h. (no_more, tt))),
+                (λ t. keeps_auth),
                 tt,
               ),
             ),
@@ -244,8 +282,9 @@ module _ (count : ℕ) (before : List ListedType) (few : named_count before ≤ 
 
   keeps_type : Keeps OneMore (type_read count before)
   keeps_type bytes place ty rest p e =
-      keeps_then (λ tag. is_tag before tag ≡ true) OneMore (u8 (is_tag before)) (λ tag bytes behind. new_type before place (slice_index_or (type_readers count before) tag nothing_read bytes behind)) (keeps_u8 (is_tag before)) (λ tag h.
-      keeps_new OneMore before place (slice_index_or (type_readers count before) tag nothing_read) (any_keeps OneMore (is_tag before) (type_readers count before) all_types_keep tag h)) bytes place ty rest p e
+      let read : ℕ → Reader ListedType = λ tag. slice_index_or (type_readers count before) tag nothing_read in
+      keeps_u8_then OneMore (is_tag before) (λ tag bytes behind. new_type before place (read tag bytes behind)) (λ tag h.
+      keeps_new OneMore before place (read tag) (any_keeps OneMore (is_tag before) (type_readers count before) all_types_keep tag h)) bytes place ty rest p e
 
 keeps_types : (count : ℕ) → Keeps (λ types. TypesWithin types × (length types ≡ 0 + count)) (times_behind [] count (type_read count))
 keeps_types count =
@@ -281,8 +320,21 @@ module _ (types : List ListedType) (functions : ℕ) where
 
   keeps_literal : Keeps Anything text_read
   keeps_literal bytes place x rest p e =
-      keeps_then (λ n. within 0 65532 n ≡ true) Anything (u32 (within 0 65532)) (λ n bytes behind. taken_as PushText (text_behind place is_utf8 n bytes behind)) (keeps_u32 (within 0 65532)) (λ n h.
+      keeps_u32_then Anything (within 0 65532) (λ n bytes behind. taken_as PushText (text_behind place is_utf8 n bytes behind)) (λ n h.
       keeps_as (λ text. is_utf8 text ≡ true) Anything PushText (text_behind place is_utf8 n) (keeps_text place is_utf8 n) (λ text k. tt)) bytes place x rest p e
+
+  abbrev tags : ℕ → ℕ
+  tags ty = length (constructors_of types ty)
+
+  keeps_make : Keeps Anything (λ bytes place. then_take (u32 (is_named types) bytes place) (λ ty bytes place. taken_as (Make ty) (u8 (λ tag. nat_lt tag (tags ty)) bytes place)))
+  keeps_make = keeps_u32_then Anything (is_named types) _ (λ ty h. keeps_read 1 byte_in (λ tag. nat_lt tag (tags ty)) (Make ty))
+
+  keeps_switch : (target : ℕ → Bool)
+      → Keeps Anything (λ bytes place. then_take (u32 (is_named types) bytes place) (λ ty bytes place. taken_as (Switch ty) (times (tags ty) (u32 target) bytes place)))
+  keeps_switch target =
+      keeps_u32_then Anything (is_named types) _ (λ ty h.
+      keeps_as (λ (targets : List ℕ). length targets ≡ tags ty) Anything (Switch ty) (times (tags ty) (u32 target))
+      (keeps_times (λ x. target x ≡ true) (λ j. u32 target) (λ j. keeps_u32 target) 0 (tags ty)) (λ targets k. tt))
 
   all_operands_keep : (i n : ℕ) → AllKeep Anything (within 0 23) (operand_readers types functions i n)
   all_operands_keep i n =
@@ -310,11 +362,9 @@ module _ (types : List ListedType) (functions : ℕ) where
                         (
                           (λ t. keeps_one Anything Snd tt),
                           (
-                            (λ t. keeps_then (λ ty. is_named types ty ≡ true) Anything (u32 (is_named types)) _ (keeps_u32 (is_named types)) (λ ty h. byte (λ tag. nat_lt tag (length (constructors_of types ty))) (Make ty))),
+                            (λ t. keeps_make),
                             (
-                              (λ t. keeps_then (λ ty. is_named types ty ≡ true) Anything (u32 (is_named types)) _ (keeps_u32 (is_named types)) (λ ty h.
-                                  let count = length (constructors_of types ty) in
-                                  keeps_as (λ (targets : List ℕ). length targets ≡ count) Anything (Switch ty) (times count (u32 target)) (keeps_times (λ x. target x ≡ true) (λ j. u32 target) (λ j. keeps_u32 target) 0 count) (λ targets k. tt))),
+                              (λ t. keeps_switch target),
                               (
                                 (λ t. word target Branch),
                                 (
@@ -368,7 +418,8 @@ module _ (types : List ListedType) (functions : ℕ) where
   -- its own byte
   instruction_costs : (n i : ℕ) → Costs (λ x. 1) Anything (instruction_read types functions n i)
   instruction_costs n i bytes place x rest p e =
-      taken_then (Anything x × (1 + length rest ≤ length bytes)) (u8 (within 0 23) bytes place) (λ code bytes place. slice_index_or (operand_readers types functions i n) code nothing_read bytes place) x rest p e (λ code r q t h.
+      taken_then (Anything x × (1 + length rest ≤ length bytes)) (u8 (within 0 23) bytes place)
+      (λ code bytes place. slice_index_or (operand_readers types functions i n) code nothing_read bytes place) x rest p e (λ code r q t h.
       let first = field_costs 1 byte_in (within 0 23) bytes place code r q t in
       let second = any_keeps Anything (within 0 23) (operand_readers types functions i n) (all_operands_keep i n) code first.0 r q x rest p h in
       (tt, omega (arith, first.1, second.1)))
@@ -376,15 +427,17 @@ module _ (types : List ListedType) (functions : ℕ) where
   -- FUNCTIONS
   function_costs : (before : List ListedFunction) → Costs code_size FunctionWithin (function_read types functions before)
   function_costs before =
-      costs_then (λ n. within 0 3 n ≡ true) code_size FunctionWithin (u8 (within 0 3)) _ (keeps_u8 (within 0 3)) (λ number h0.
+      costs_u8_then code_size FunctionWithin (within 0 3) _ (λ number h0.
       let kind = slice_index_or kinds number Inner in
-      costs_then (λ name. IsName (name_declared kind name)) code_size FunctionWithin (role_name_read kind before) (behind_name types functions kind) (keeps_role_name kind before) (λ name named.
-      costs_then (λ n. within 1 most_parameters n ≡ true) code_size FunctionWithin (u8 (within 1 most_parameters)) (behind_count types functions kind name) (keeps_u8 (within 1 most_parameters)) (λ count few.
+      costs_then (λ name. IsName (name_declared kind name)) code_size FunctionWithin (role_name_read kind before) (behind_name types functions kind)
+      (keeps_role_name kind before) (λ name named.
+      costs_u8_then code_size FunctionWithin (within 1 most_parameters) (behind_count types functions kind name) (λ count few.
       costs_then (λ (parameters : List ℕ). length parameters ≡ count) code_size FunctionWithin (times count (type_number types functions)) (behind_parameters types functions kind name)
       (keeps_times (λ t. nat_lt t (length types) ≡ true) (λ i. type_number types functions) (λ i. keeps_u32 (λ t. nat_lt t (length types))) 0 count) (λ parameters long.
-      costs_then (λ t. nat_lt t (length types) ≡ true) code_size FunctionWithin (type_number types functions) (behind_result types functions kind name parameters) (keeps_u32 (λ t. nat_lt t (length types))) (λ result h1.
-      costs_then (λ n. nat_le 1 n ≡ true) code_size FunctionWithin (u32 (nat_le 1)) (behind_length types functions kind name parameters result) (keeps_u32 (nat_le 1)) (λ n h2.
-      costs_as (λ (code : List Instruction). length code) code_size Anything FunctionWithin (λ code. record { kind = kind; name = name; parameters = parameters; result = result; code = code }) (times_from 0 n (instruction_read types functions n))
+      costs_u32_then code_size FunctionWithin (λ t. nat_lt t (length types)) (behind_result types functions kind name parameters) (λ result h1.
+      costs_u32_then code_size FunctionWithin (nat_le 1) (behind_length types functions kind name parameters result) (λ n h2.
+      costs_as (λ (code : List Instruction). length code) code_size Anything FunctionWithin
+      (λ code. record { kind = kind; name = name; parameters = parameters; result = result; code = code }) (times_from 0 n (instruction_read types functions n))
       (costs_times Anything (instruction_read types functions n) (instruction_costs n) 0 n)
       (λ code h3. ((named, subst (λ n. n ≤ most_parameters) (sym long) (within_most 1 most_parameters count few)), refl))))))))
 
@@ -397,15 +450,18 @@ code_more : (before : List ListedFunction) (f : ListedFunction) → all_code (be
 code_more [] f = omega arith
 code_more (g ∷ before) f = let e : all_code (before ++ f ∷ []) ≡ all_code before + length f.code = code_more before f in omega (arith, e)
 
+-- functions behind those before, and what their code costs
+abbrev AllCost : List ListedFunction → ℕ → List ℕ → List ℕ → List ListedFunction → Type 0
+AllCost before n bytes rest fs = AllOf FunctionWithin fs × (length fs ≡ length before + n) × (all_code fs + length rest ≤ all_code before + length bytes)
+
 module _ (types : List ListedType) (functions : ℕ) where
   functions_cost : (before : List ListedFunction) (n : ℕ) → AllOf FunctionWithin before → (bytes : List ℕ) (place : ℕ) (fs : List ListedFunction) (rest : List ℕ) (p : ℕ)
-      → times_behind before n (function_read types functions) bytes place ≡ Took fs rest p
-      → AllOf FunctionWithin fs × (length fs ≡ length before + n) × (all_code fs + length rest ≤ all_code before + length bytes)
+      → times_behind before n (function_read types functions) bytes place ≡ Took fs rest p → AllCost before n bytes rest fs
   functions_cost before zero h bytes place fs rest p e =
       let left : length bytes ≡ length rest = ap length (taken_rest before fs bytes rest place p e) in
-      subst (λ fs. AllOf FunctionWithin fs × (length fs ≡ length before + 0) × (all_code fs + length rest ≤ all_code before + length bytes)) (taken_is before fs bytes rest place p e) (h, omega arith, omega (arith, left))
+      subst (AllCost before 0 bytes rest) (taken_is before fs bytes rest place p e) (h, omega arith, omega (arith, left))
   functions_cost before (suc n) h bytes place fs rest p e =
-      taken_then (AllOf FunctionWithin fs × (length fs ≡ length before + suc n) × (all_code fs + length rest ≤ all_code before + length bytes)) (function_read types functions before bytes place)
+      taken_then (AllCost before (suc n) bytes rest fs) (function_read types functions before bytes place)
       (λ f bytes place. times_behind (before ++ f ∷ []) n (function_read types functions) bytes place) fs rest p e (λ f r q t k.
       let first = function_costs types functions before bytes place f r q t in
       let second = functions_cost (before ++ f ∷ []) n (all_append FunctionWithin before f h first.0) r q fs rest p k in
@@ -429,11 +485,13 @@ keeps_magic bytes place x rest p e = by (nat_lt (length bytes) 4) (bytes_eq (tak
 object_costs : Costs object_size ObjectWithin object_read
 object_costs =
     costs_then Anything object_size ObjectWithin magic_read behind_magic keeps_magic (λ magic h0.
-    costs_then (λ n. within 0 most_listed_types n ≡ true) object_size ObjectWithin (u32 (within 0 most_listed_types)) behind_type_count (keeps_u32 (within 0 most_listed_types)) (λ count h1.
-    costs_then (λ types. TypesWithin types × (length types ≡ 0 + count)) object_size ObjectWithin (times_behind [] count (type_read count)) (behind_types count) (keeps_types count) (λ types ts.
-    costs_then (λ t. nat_lt t count ≡ true) object_size ObjectWithin (u32 (λ t. nat_lt t count)) (behind_state types) (keeps_u32 (λ t. nat_lt t count)) (λ state h2.
-    costs_then (λ n. within 0 most_functions n ≡ true) object_size ObjectWithin (u16 (within 0 most_functions)) (behind_function_count types state) (keeps_u16 (within 0 most_functions)) (λ n few.
-    costs_as all_code object_size (λ fs. AllOf FunctionWithin fs × (length fs ≡ n)) ObjectWithin (λ functions. record { types = types; state = state; functions = functions }) (times_behind [] n (function_read types n))
+    costs_u32_then object_size ObjectWithin (within 0 most_listed_types) behind_type_count (λ count h1.
+    costs_then (λ types. TypesWithin types × (length types ≡ 0 + count)) object_size ObjectWithin (times_behind [] count (type_read count)) (behind_types count)
+    (keeps_types count) (λ types ts.
+    costs_u32_then object_size ObjectWithin (λ t. nat_lt t count) (behind_state types) (λ state h2.
+    costs_u16_then object_size ObjectWithin (within 0 most_functions) (behind_function_count types state) (λ n few.
+    costs_as all_code object_size (λ fs. AllOf FunctionWithin fs × (length fs ≡ n)) ObjectWithin
+    (λ functions. record { types = types; state = state; functions = functions }) (times_behind [] n (function_read types n))
     (λ bytes place fs rest p e. let k = functions_cost types n [] n tt bytes place fs rest p e in ((k.0, k.1 ∙ omega arith), omega (arith, k.2)))
     (λ fs k. ((ts.0, subst (λ n. n ≤ most_functions) (sym k.1) (within_most 0 most_functions n few), k.0), refl)))))))
 
@@ -463,9 +521,10 @@ constructors_within trees (c ∷ cs) h =
 tables_within : (trees : List Ty) (types : List ListedType) → AllOf TypeWithin types → All HasFewConstructors (named_tables trees types) × All (All HasFewFields) (named_tables trees types)
 tables_within trees [] h = (All-nil HasFewConstructors, All-nil (All HasFewFields))
 tables_within trees (ListedNamed cs ∷ types) h =
-    let table : List (List Ty) = map (λ (c : ListedConstructor). map (listed_at trees) c.fields) cs in
+    let fields_of : ListedConstructor → List Ty = λ c. map (listed_at trees) c.fields in
+    let table : List (List Ty) = map fields_of cs in
     let more = tables_within trees types h.1 in (
-      All-cons HasFewConstructors table (named_tables trees types) (subst (λ n. n ≤ most_constructors) (sym (length-map cs (λ (c : ListedConstructor). map (listed_at trees) c.fields))) h.0.0) more.0,
+      All-cons HasFewConstructors table (named_tables trees types) (subst (λ n. n ≤ most_constructors) (sym (length-map cs fields_of)) h.0.0) more.0,
       All-cons (All HasFewFields) table (named_tables trees types) (constructors_within trees cs h.0.1) more.1,
     )
 tables_within trees (ListedUnit ∷ types) h = tables_within trees types h.1

@@ -42,14 +42,29 @@ proves_text offset test n bytes h place x rest p e = (text_passes offset n test 
 proves_one : {A : Type 0} (Q : A → Type 0) (a : A) → Q a → Proves Q (λ bytes place. Took a bytes place)
 proves_one Q a q bytes h place b rest p e = (subst Q (taken_is a b bytes rest place p e) q, subst AreBytes (taken_rest a b bytes rest place p e) h)
 
-proves_then : {A B : Type 0} (P : A → Type 0) (Q : B → Type 0) (read : Reader A) (go : A → Reader B) → Proves P read → ((a : A) → P a → Proves Q (go a)) → Proves Q (λ bytes place. then_take (read bytes place) go)
+proves_then : {A B : Type 0} (P : A → Type 0) (Q : B → Type 0) (read : Reader A) (go : A → Reader B)
+    → Proves P read → ((a : A) → P a → Proves Q (go a)) → Proves Q (λ bytes place. then_take (read bytes place) go)
 proves_then P Q read go f g bytes h place b rest p e =
     taken_then (Q b × AreBytes rest) (read bytes place) go b rest p e (λ a r q t k.
     let first = f bytes h place a r q t in
     g a first.0 r first.1 q b rest p k)
 
-proves_as : {A B : Type 0} (P : A → Type 0) (Q : B → Type 0) (make : A → B) (read : Reader A) → Proves P read → ((a : A) → P a → Q (make a)) → Proves Q (λ bytes place. taken_as make (read bytes place))
+proves_as : {A B : Type 0} (P : A → Type 0) (Q : B → Type 0) (make : A → B) (read : Reader A)
+    → Proves P read → ((a : A) → P a → Q (make a)) → Proves Q (λ bytes place. taken_as make (read bytes place))
 proves_as P Q make read f g = proves_then P Q read (λ a rest place. Took (make a) rest place) f (λ a k. proves_one Q (make a) (g a k))
+
+-- a field, and what is read behind it
+u8_then : {B : Type 0} (Q : B → Type 0) (test : ℕ → Bool) (go : ℕ → Reader B) → ((n : ℕ) → test n ≡ true → Proves Q (go n))
+    → Proves Q (λ bytes place. then_take (u8 test bytes place) go)
+u8_then Q test go g = proves_then (λ n. test n ≡ true) Q (u8 test) go (proves_u8 test) g
+
+u16_then : {B : Type 0} (Q : B → Type 0) (test : ℕ → Bool) (go : ℕ → Reader B) → ((n : ℕ) → test n ≡ true → Proves Q (go n))
+    → Proves Q (λ bytes place. then_take (u16 test bytes place) go)
+u16_then Q test go g = proves_then (λ n. test n ≡ true) Q (u16 test) go (proves_u16 test) g
+
+u32_then : {B : Type 0} (Q : B → Type 0) (test : ℕ → Bool) (go : ℕ → Reader B) → ((n : ℕ) → test n ≡ true → Proves Q (go n))
+    → Proves Q (λ bytes place. then_take (u32 test bytes place) go)
+u32_then Q test go g = proves_then (λ n. test n ≡ true) Q (u32 test) go (proves_u32 test) g
 
 -- as many as said
 module _ {A : Type 0} (P : ℕ → A → Type 0) (Q : ℕ → List A → Type 0) (none : (i : ℕ) → Q i []) (more : (i : ℕ) (a : A) (items : List A) → P i a → Q (suc i) items → Q i (a ∷ items))
@@ -63,7 +78,8 @@ module _ {A : Type 0} (P : ℕ → A → Type 0) (Q : ℕ → List A → Type 0)
 
 -- each read by those before it
 module _ {A : Type 0} (P : List A → A → Type 0) (Q : List A → List A → Type 0) (none : (before : List A) → Q before [])
-    (more : (before : List A) (a : A) (items : List A) → P before a → Q (before ++ a ∷ []) items → Q before (a ∷ items)) (one : List A → Reader A) (proves : (before : List A) → Proves (P before) (one before)) where
+    (more : (before : List A) (a : A) (items : List A) → P before a → Q (before ++ a ∷ []) items → Q before (a ∷ items))
+    (one : List A → Reader A) (proves : (before : List A) → Proves (P before) (one before)) where
   -- those behind the ones before
   record Behind (before : List A) (n : ℕ) (items : List A) : Type 0 where
     behind : List A
@@ -99,7 +115,8 @@ within_least least most n e = leb-true least n (first_of (nat_le least n) (nat_l
 
 proves_below : (count n : ℕ) → Proves (λ items. (length items ≡ n) × AllBelow count items) (times n (u32 (λ t. nat_lt t count)))
 proves_below count n =
-    proves_times (λ i t. nat_lt t count ≡ true) (λ i items. AllBelow count items) (λ i. tt) (λ i t items h k. (ltb-true t count h, k)) (λ i. u32 (λ t. nat_lt t count)) (λ i. proves_u32 (λ t. nat_lt t count)) 0 n
+    proves_times (λ i t. nat_lt t count ≡ true) (λ i items. AllBelow count items) (λ i. tt) (λ i t items h k. (ltb-true t count h, k))
+    (λ i. u32 (λ t. nat_lt t count)) (λ i. proves_u32 (λ t. nat_lt t count)) 0 n
 
 proves_ahead : (i n count : ℕ) → Proves (λ items. (length items ≡ count) × AllAhead i n items) (times count (u32 (λ t. nat_lt i t && nat_lt t n)))
 proves_ahead i n count =
@@ -127,22 +144,29 @@ untrue false e = refl
 proves_name : (form : List ℕ → Bool) (before : List (List ℕ)) → Proves (IsNewName form before) (name_read form before)
 proves_name form before bytes h place name rest p e =
     let test : List ℕ → Bool = λ name. form name && not (is_among name before) in
-    proves_then (λ n. any n ≡ true) (IsNewName form before) (u8 any) (λ n bytes behind. text_behind place test n bytes behind) (proves_u8 any) (λ n t bytes h behind name rest p e.
-    let k = proves_text place test n bytes h behind name rest p e in
-    (record { is_formed = first_of (form name) (not (is_among name before)) k.0.0; is_new = untrue (is_among name before) (second_of (form name) (not (is_among name before)) k.0.0) }, k.1)) bytes h place name rest p e
+    u8_then (IsNewName form before) any (λ n bytes behind. text_behind place test n bytes behind) (λ n t bytes h behind name rest p e.
+    let k = proves_text place test n bytes h behind name rest p e in (
+      record {
+        is_formed = first_of (form name) (not (is_among name before)) k.0.0;
+        is_new = untrue (is_among name before) (second_of (form name) (not (is_among name before)) k.0.0);
+      },
+      k.1,
+    )) bytes h place name rest p e
 
 -- TYPES
 proves_constructor : (count : ℕ) (before : List (List ℕ)) (others : List ListedConstructor) → Proves (IsConstructor count (before ++ names_of others)) (constructor_read count before others)
 proves_constructor count before others =
-    let Q = IsConstructor count (before ++ names_of others) in
-    proves_then (IsNewName is_upper_name (before ++ names_of others)) Q (name_read is_upper_name (before ++ names_of others)) _ (proves_name is_upper_name (before ++ names_of others)) (λ name named.
-    proves_then (λ n. within 0 most_fields n ≡ true) Q (u8 (within 0 most_fields)) _ (proves_u8 (within 0 most_fields)) (λ n few.
+    let used = before ++ names_of others in
+    let Q = IsConstructor count used in
+    proves_then (IsNewName is_upper_name used) Q (name_read is_upper_name used) _ (proves_name is_upper_name used) (λ name named.
+    u8_then Q (within 0 most_fields) _ (λ n few.
     proves_as (λ fields. (length fields ≡ n) × AllBelow count fields) Q (λ fields. record { name = name; fields = fields }) (times n (u32 (λ t. nat_lt t count))) (proves_below count n)
     (λ fields k. record { name = named; few = subst (λ n. n ≤ most_fields) (sym k.0) (within_most 0 most_fields n few); fields = k.1 })))
 
 proves_constructors : (count : ℕ) (before : List (List ℕ)) (n : ℕ) → Proves (λ cs. (length cs ≡ n) × AreConstructors count before [] cs) (times_behind [] n (constructor_read count before))
 proves_constructors count before n =
-    proves_all (λ others c. IsConstructor count (before ++ names_of others) c) (AreConstructors count before) (λ others. tt) (λ others c cs h k. (h, k)) (constructor_read count before) (proves_constructor count before) n
+    proves_all (λ others c. IsConstructor count (before ++ names_of others) c) (AreConstructors count before) (λ others. tt) (λ others c cs h k. (h, k))
+    (constructor_read count before) (proves_constructor count before) n
 
 module _ (count : ℕ) (before : List ListedType) where
   abbrev IsNew : ListedType → Type 0
@@ -154,10 +178,14 @@ module _ (count : ℕ) (before : List ListedType) where
   proves_earlier : Proves (λ t. nat_lt t (length before) ≡ true) earlier
   proves_earlier = proves_u32 (λ t. nat_lt t (length before))
 
-  proves_named : is_tag before 5 ≡ true → Proves (IsType count before) (λ bytes place. then_take (u8 (within 1 most_constructors) bytes place) (λ n bytes place. taken_as ListedNamed (times_behind [] n (constructor_read count (all_names before)) bytes place)))
+  abbrev constructors : ℕ → Reader (List ListedConstructor)
+  constructors n = times_behind [] n (constructor_read count (all_names before))
+
+  proves_named : is_tag before 5 ≡ true
+      → Proves (IsType count before) (λ bytes place. then_take (u8 (within 1 most_constructors) bytes place) (λ n bytes place. taken_as ListedNamed (constructors n bytes place)))
   proves_named t =
-      proves_then (λ n. within 1 most_constructors n ≡ true) (IsType count before) (u8 (within 1 most_constructors)) _ (proves_u8 (within 1 most_constructors)) (λ n h.
-      proves_as (λ cs. (length cs ≡ n) × AreConstructors count (all_names before) [] cs) (IsType count before) ListedNamed (times_behind [] n (constructor_read count (all_names before)))
+      u8_then (IsType count before) (within 1 most_constructors) _ (λ n h.
+      proves_as (λ cs. (length cs ≡ n) × AreConstructors count (all_names before) [] cs) (IsType count before) ListedNamed (constructors n)
       (proves_constructors count (all_names before) n)
       (λ cs k. (
         ltb-true (named_count before) most_types t,
@@ -168,8 +196,9 @@ module _ (count : ℕ) (before : List ListedType) where
 
   proves_pair : Proves (IsType count before) (λ bytes place. then_take (earlier bytes place) (λ a bytes place. taken_as (ListedPair a) (earlier bytes place)))
   proves_pair =
-      proves_then (λ t. nat_lt t (length before) ≡ true) (IsType count before) earlier _ proves_earlier (λ a h.
-      proves_as (λ t. nat_lt t (length before) ≡ true) (IsType count before) (ListedPair a) earlier proves_earlier (λ b k. (ltb-true a (length before) h, ltb-true b (length before) k)))
+      u32_then (IsType count before) (λ t. nat_lt t (length before)) _ (λ a h.
+      proves_as (λ t. nat_lt t (length before) ≡ true) (IsType count before) (ListedPair a) earlier proves_earlier
+      (λ b k. (ltb-true a (length before) h, ltb-true b (length before) k)))
 
   proves_auth : Proves (IsType count before) (λ bytes place. taken_as ListedAuth (earlier bytes place))
   proves_auth = proves_as (λ t. nat_lt t (length before) ≡ true) (IsType count before) ListedAuth earlier proves_earlier (λ a h. ltb-true a (length before) h)
@@ -208,8 +237,9 @@ module _ (count : ℕ) (before : List ListedType) where
 
   proves_type : Proves IsNew (type_read count before)
   proves_type bytes h place ty rest p e =
-      proves_then (λ tag. is_tag before tag ≡ true) IsNew (u8 (is_tag before)) (λ tag bytes behind. new_type before place (slice_index_or (type_readers count before) tag nothing_read bytes behind)) (proves_u8 (is_tag before)) (λ tag t.
-      proves_new place (slice_index_or (type_readers count before) tag nothing_read) (any_proves (IsType count before) (is_tag before) (type_readers count before) all_types_prove tag t)) bytes h place ty rest p e
+      let read : ℕ → Reader ListedType = λ tag. slice_index_or (type_readers count before) tag nothing_read in
+      u8_then IsNew (is_tag before) (λ tag bytes behind. new_type before place (read tag bytes behind)) (λ tag t.
+      proves_new place (read tag) (any_proves (IsType count before) (is_tag before) (type_readers count before) all_types_prove tag t)) bytes h place ty rest p e
 
 proves_types : (count : ℕ) → Proves (λ types. (length types ≡ count) × AreTypes count [] types) (times_behind [] count (type_read count))
 proves_types count = proves_all (IsNew count) (AreTypes count) (λ before. tt) (λ before t ts h k. (h.0, h.1, k)) (type_read count) (proves_type count) count
@@ -230,6 +260,9 @@ module _ (types : List ListedType) (functions i n : ℕ) where
   abbrev is_target : ℕ → Bool
   is_target t = nat_lt i t && nat_lt t n
 
+  abbrev tags : ℕ → ℕ
+  tags ty = length (constructors_of types ty)
+
   target_ahead : (t : ℕ) → is_target t ≡ true → (i < t) × (t < n)
   target_ahead t h = (ltb-true i t (first_of (nat_lt i t) (nat_lt t n) h), ltb-true t n (second_of (nat_lt i t) (nat_lt t n) h))
 
@@ -241,20 +274,27 @@ module _ (types : List ListedType) (functions i n : ℕ) where
 
   proves_text_read : Proves Right text_read
   proves_text_read bytes h place x rest p e =
-      proves_then (λ m. within 0 65532 m ≡ true) Right (u32 (within 0 65532)) (λ m bytes behind. taken_as PushText (text_behind place is_utf8 m bytes behind)) (proves_u32 (within 0 65532)) (λ m few.
+      u32_then Right (within 0 65532) (λ m bytes behind. taken_as PushText (text_behind place is_utf8 m bytes behind)) (λ m few.
       proves_as (λ text. (is_utf8 text ≡ true) × (length text ≡ m)) Right PushText (text_behind place is_utf8 m) (proves_text place is_utf8 m)
       (λ text k. (IsUtf8-from_is_utf8 text k.0, subst (λ m. m ≤ 65532) (sym k.1) (within_most 0 65532 m few)))) bytes h place x rest p e
 
-  proves_make : Proves Right (λ bytes place. then_take (u32 (is_named types) bytes place) (λ ty bytes place. taken_as (Make ty) (u8 (λ tag. nat_lt tag (length (constructors_of types ty))) bytes place)))
-  proves_make =
-      proves_then (λ ty. is_named types ty ≡ true) Right (u32 (is_named types)) _ (proves_u32 (is_named types)) (λ ty h.
-      byte (λ tag. nat_lt tag (length (constructors_of types ty))) (Make ty) (λ tag k. (h, named_there types ty h, ltb-true tag (length (constructors_of types ty)) k)))
+  proves_int_read : Proves Right (λ bytes place. taken_as (λ m. PushInt (cast_signed w64 m)) (field 8 (from_be_bytes w64) is_int bytes place))
+  proves_int_read =
+      let read = field 8 (from_be_bytes w64) is_int in
+      proves_as (λ m. is_int m ≡ true) Right (λ m. PushInt (cast_signed w64 m)) read (proves_spelled int_bytes (λ m. is_int m ≡ true) read spells_int) (λ m h. h)
 
-  proves_switch : Proves Right (λ bytes place. then_take (u32 (is_named types) bytes place) (λ ty bytes place. taken_as (Switch ty) (times (length (constructors_of types ty)) (u32 is_target) bytes place)))
+  proves_call : Proves Right (λ bytes place. taken_as Call (u16 (λ f. nat_lt f functions) bytes place))
+  proves_call = proves_as (λ f. nat_lt f functions ≡ true) Right Call (u16 (λ f. nat_lt f functions)) (proves_u16 (λ f. nat_lt f functions)) (λ f h. ltb-true f functions h)
+
+  proves_make : Proves Right (λ bytes place. then_take (u32 (is_named types) bytes place) (λ ty bytes place. taken_as (Make ty) (u8 (λ tag. nat_lt tag (tags ty)) bytes place)))
+  proves_make =
+      u32_then Right (is_named types) _ (λ ty h.
+      byte (λ tag. nat_lt tag (tags ty)) (Make ty) (λ tag k. (h, named_there types ty h, ltb-true tag (tags ty) k)))
+
+  proves_switch : Proves Right (λ bytes place. then_take (u32 (is_named types) bytes place) (λ ty bytes place. taken_as (Switch ty) (times (tags ty) (u32 is_target) bytes place)))
   proves_switch =
-      proves_then (λ ty. is_named types ty ≡ true) Right (u32 (is_named types)) _ (proves_u32 (is_named types)) (λ ty h.
-      let count = length (constructors_of types ty) in
-      proves_as (λ targets. (length targets ≡ count) × AllAhead i n targets) Right (Switch ty) (times count (u32 is_target)) (proves_ahead i n count)
+      u32_then Right (is_named types) _ (λ ty h.
+      proves_as (λ targets. (length targets ≡ tags ty) × AllAhead i n targets) Right (Switch ty) (times (tags ty) (u32 is_target)) (proves_ahead i n (tags ty))
       (λ targets k. (h, named_there types ty h, k.0, k.1)))
 
   operands_prove : AllProve Right (within 0 23) (operand_readers types functions i n)
@@ -263,7 +303,7 @@ module _ (types : List ListedType) (functions i n : ℕ) where
     (
       (λ t. byte (within 0 1) (λ b. PushBool (nat_eq b 1)) (λ b h. tt)),
       (
-        (λ t. proves_as (λ m. is_int m ≡ true) Right (λ m. PushInt (cast_signed w64 m)) (field 8 (from_be_bytes w64) is_int) (proves_spelled int_bytes (λ m. is_int m ≡ true) (field 8 (from_be_bytes w64) is_int) spells_int) (λ m h. h)),
+        (λ t. proves_int_read),
         (
           (λ t. proves_text_read),
           (
@@ -287,7 +327,7 @@ module _ (types : List ListedType) (functions i n : ℕ) where
                             (
                               (λ t. four is_target Jump target_ahead),
                               (
-                                (λ t. proves_as (λ f. nat_lt f functions ≡ true) Right Call (u16 (λ f. nat_lt f functions)) (proves_u16 (λ f. nat_lt f functions)) (λ f h. ltb-true f functions h)),
+                                (λ t. proves_call),
                                 (
                                   (λ t. proves_one Right Return tt),
                                   (
@@ -334,7 +374,7 @@ module _ (types : List ListedType) (functions i n : ℕ) where
 
   proves_instruction : Proves Right (instruction_read types functions n i)
   proves_instruction =
-      proves_then (λ code. within 0 23 code ≡ true) Right (u8 (within 0 23)) _ (proves_u8 (within 0 23)) (λ code h. any_proves Right (within 0 23) (operand_readers types functions i n) operands_prove code h)
+      u8_then Right (within 0 23) _ (λ code h. any_proves Right (within 0 23) (operand_readers types functions i n) operands_prove code h)
 
 -- FUNCTIONS
 proves_role_name : (kind : Kind) (before : List ListedFunction) → Proves (HasRoleName kind before) (role_name_read kind before)
@@ -346,20 +386,22 @@ proves_role_name Update before = proves_name is_lower_name (role_names before)
 module _ (types : List ListedType) (functions : ℕ) where
   proves_code : (n : ℕ) → Proves (λ code. (length code ≡ n) × AreInstructions types functions 0 n code) (times_from 0 n (instruction_read types functions n))
   proves_code n =
-      proves_times (λ i x. IsInstruction types functions i n x) (λ i xs. AreInstructions types functions i n xs) (λ i. tt) (λ i x xs h k. (h, k)) (instruction_read types functions n) (λ i. proves_instruction types functions i n) 0 n
+      proves_times (λ i x. IsInstruction types functions i n x) (λ i xs. AreInstructions types functions i n xs) (λ i. tt) (λ i x xs h k. (h, k))
+      (instruction_read types functions n) (λ i. proves_instruction types functions i n) 0 n
 
   proves_function : (before : List ListedFunction) → Proves (IsListedFunction types functions before) (function_read types functions before)
   proves_function before =
       let Q = IsListedFunction types functions before in
-      proves_then (λ n. within 0 3 n ≡ true) Q (u8 (within 0 3)) _ (proves_u8 (within 0 3)) (λ number h0.
+      u8_then Q (within 0 3) _ (λ number h0.
       let kind = slice_index_or kinds number Inner in
       proves_then (HasRoleName kind before) Q (role_name_read kind before) (behind_name types functions kind) (proves_role_name kind before) (λ name named.
-      proves_then (λ n. within 1 most_parameters n ≡ true) Q (u8 (within 1 most_parameters)) (behind_count types functions kind name) (proves_u8 (within 1 most_parameters)) (λ count few.
-      proves_then (λ ps. (length ps ≡ count) × AllBelow (length types) ps) Q (times count (type_number types functions)) (behind_parameters types functions kind name) (proves_below (length types) count) (λ ps each.
-      proves_then (λ t. nat_lt t (length types) ≡ true) Q (type_number types functions) (behind_result types functions kind name ps) (proves_u32 (λ t. nat_lt t (length types))) (λ result there.
+      u8_then Q (within 1 most_parameters) (behind_count types functions kind name) (λ count few.
+      proves_then (λ ps. (length ps ≡ count) × AllBelow (length types) ps) Q (times count (type_number types functions)) (behind_parameters types functions kind name)
+      (proves_below (length types) count) (λ ps each.
+      u32_then Q (λ t. nat_lt t (length types)) (behind_result types functions kind name ps) (λ result there.
       proves_then (λ n. (1 ≤ n) × (n < 2 ^ 32)) Q (u32 (nat_le 1)) (behind_length types functions kind name ps result) proves_length (λ n some.
-      proves_as (λ code. (length code ≡ n) × AreInstructions types functions 0 n code) Q (λ code. record { kind = kind; name = name; parameters = ps; result = result; code = code }) (times_from 0 n (instruction_read types functions n))
-      (proves_code n)
+      proves_as (λ code. (length code ≡ n) × AreInstructions types functions 0 n code) Q
+      (λ code. record { kind = kind; name = name; parameters = ps; result = result; code = code }) (times_from 0 n (instruction_read types functions n)) (proves_code n)
       (λ code k. record {
         name = named;
         some = subst (λ n. 1 ≤ n) (sym each.0) (within_least 1 most_parameters count few);
@@ -373,17 +415,19 @@ module _ (types : List ListedType) (functions : ℕ) where
 
   proves_functions : (n : ℕ) → Proves (λ fs. (length fs ≡ n) × AreFunctions types functions [] fs) (times_behind [] n (function_read types functions))
   proves_functions n =
-      proves_all (λ before f. IsListedFunction types functions before f) (λ before fs. AreFunctions types functions before fs) (λ before. tt) (λ before f fs h k. (h, k)) (function_read types functions) proves_function n
+      proves_all (λ before f. IsListedFunction types functions before f) (λ before fs. AreFunctions types functions before fs) (λ before. tt) (λ before f fs h k. (h, k))
+      (function_read types functions) proves_function n
 
 -- OBJECTS
 proves_object : Proves IsObject object_read
 proves_object =
     proves_then Anything IsObject magic_read behind_magic (proves_spelled (λ n. object_magic) Anything magic_read spells_magic) (λ magic h0.
-    proves_then (λ n. within 0 most_listed_types n ≡ true) IsObject (u32 (within 0 most_listed_types)) behind_type_count (proves_u32 (within 0 most_listed_types)) (λ count few.
+    u32_then IsObject (within 0 most_listed_types) behind_type_count (λ count few.
     proves_then (λ types. (length types ≡ count) × AreTypes count [] types) IsObject (times_behind [] count (type_read count)) (behind_types count) (proves_types count) (λ types ts.
-    proves_then (λ t. nat_lt t count ≡ true) IsObject (u32 (λ t. nat_lt t count)) (behind_state types) (proves_u32 (λ t. nat_lt t count)) (λ state there.
-    proves_then (λ n. within 0 most_functions n ≡ true) IsObject (u16 (within 0 most_functions)) (behind_function_count types state) (proves_u16 (within 0 most_functions)) (λ n some.
-    proves_as (λ fs. (length fs ≡ n) × AreFunctions types n [] fs) IsObject (λ functions. record { types = types; state = state; functions = functions }) (times_behind [] n (function_read types n)) (proves_functions types n n)
+    u32_then IsObject (λ t. nat_lt t count) (behind_state types) (λ state there.
+    u16_then IsObject (within 0 most_functions) (behind_function_count types state) (λ n some.
+    proves_as (λ fs. (length fs ≡ n) × AreFunctions types n [] fs) IsObject (λ functions. record { types = types; state = state; functions = functions })
+    (times_behind [] n (function_read types n)) (proves_functions types n n)
     (λ fs k. record {
       few_types = subst (λ n. n ≤ most_listed_types) (sym ts.0) (within_most 0 most_listed_types count few);
       types = subst (λ n. AreTypes n [] types) (sym ts.0) ts.1;

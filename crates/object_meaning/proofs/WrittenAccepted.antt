@@ -26,28 +26,11 @@ use Rattle.object_meaning.specs.ReadObjects.{role_names}
 use Rattle.object_meaning.proofs.RoleNames.{role_names_more}
 use Rattle.object_meaning.proofs.KindsOfPrograms.{no_kind_fault}
 use Rattle.core_terms.proofs.KindsSound.{length_unreached}
-use Rattle.object_meaning.proofs.ListedTypes.{CodeIn, FunctionsIn, number_found}
+use Rattle.object_meaning.proofs.ListedTypes.{some_none, none_some, some_is, CodeIn, FunctionsIn, number_found}
 use Rattle.object_meaning.proofs.ObjectCode.{IsListed, program_listed, numbers_back, trees_back, table_back, objects_are_code}
 use Rattle.object_meaning.proofs.ObjectsBack.{object_back}
-use Rattle.object_meaning.proofs.WrittenWell.{below, all_below, are_types}
+use Rattle.object_meaning.proofs.WrittenWell.{true_left, true_right, below, all_below, are_types}
 use Rattle.object_meaning.proofs.WrittenCode.{code_is}
-
-some_none : {A : Type 0} {a : A} → Some a ≡ None → ⊥
-some_none e = cc
-
-none_some : {A : Type 0} {a : A} → None ≡ Some a → ⊥
-none_some e = cc
-
-some_is : {A : Type 0} {a b : A} → Some a ≡ Some b → a ≡ b
-some_is e = cc
-
-true_left : (a b : Bool) → a && b ≡ true → a ≡ true
-true_left true b e = refl
-true_left false b e = cc
-
-true_right : (a b : Bool) → a && b ≡ true → b ≡ true
-true_right true b e = e
-true_right false b e = cc
 
 -- code is no longer than its bytes, and so than the object's
 instruction_long : (x : Instruction) → 1 ≤ length (instruction_bytes x)
@@ -95,7 +78,14 @@ functions_short o =
     let c = to_be_bytes w16 (length o.functions) ++ d in
     let b = word o.state ++ c in
     let a = bytes_of_all type_bytes o.types ++ b in
-    omega (arith, length-append (to_be_bytes w16 (length o.functions)) d, length-append (word o.state) c, length-append (bytes_of_all type_bytes o.types) b, length-append (word (length o.types)) a, length-append object_magic (word (length o.types) ++ a))
+    omega (
+      arith,
+      length-append (to_be_bytes w16 (length o.functions)) d,
+      length-append (word o.state) c,
+      length-append (bytes_of_all type_bytes o.types) b,
+      length-append (word (length o.types)) a,
+      length-append object_magic (word (length o.types) ++ a),
+    )
 
 length_code : (types : List Ty) (i : ℕ) (xs : List code.Instruction) → length (code_written types i xs) ≡ length xs
 length_code types i [] = refl
@@ -144,7 +134,9 @@ module _ (P : Program) (names : List (List (List ℕ))) (emittable : IsEmittable
   are_functions before f [] t a c h fit e = tt
   are_functions before f (g ∷ gs) t a c h fit e =
       by (function_fault (written_body P) (function_code P.types g)) refl e
-      (are_functions (before ++ write g ∷ []) (suc f) gs t.1 a.1 c.1 (subst (λ l. AreEmittable l gs) (sym (role_names_more before (write g) ∙ ap (λ l. role_names before ++ l) (taken_is g.kind g.name))) h.1) (omega (arith, fit, length-append (function_bytes (write g)) (bytes_of_all function_bytes (map write gs)))))
+      (are_functions (before ++ write g ∷ []) (suc f) gs t.1 a.1 c.1
+      (subst (λ l. AreEmittable l gs) (sym (role_names_more before (write g) ∙ ap (λ l. role_names before ++ l) (taken_is g.kind g.name))) h.1)
+      (omega (arith, fit, length-append (function_bytes (write g)) (bytes_of_all function_bytes (map write gs)))))
     where
       by : (o : Option ℕ) → function_fault (written_body P) (function_code P.types g) ≡ o → fault_at o f (kind_fault_from (written_body P) (suc f) (map (function_code P.types) gs)) ≡ None
           → (kind_fault_from (written_body P) (suc f) (map (function_code P.types) gs) ≡ None → AreFunctions lt (length fs) (before ++ write g ∷ []) (map write gs)) → AreFunctions lt (length fs) before (map write (g ∷ gs))
@@ -215,7 +207,8 @@ module _ (P : Program) (names : List (List (List ℕ))) (emittable : IsEmittable
       let trees : trees_of lt ≡ types = trees_back P.types names types listed.listing in
       let D = program_in (object_of P names) in
       ap (λ ts. shape_fault_from D 0 (map (declared_in ts) fs)) trees
-      ∙ no_shape_fault D 0 P.functions (ap (λ ts. named_tables ts lt) trees ∙ table_back P.types names types listed.listing listed.fields) (ap (λ ts. listed_at ts (number_in types P.state)) trees ∙ number_found types P.state listed.state) listed.functions emittable.shaped
+      ∙ no_shape_fault D 0 P.functions (ap (λ ts. named_tables ts lt) trees ∙ table_back P.types names types listed.listing listed.fields)
+      (ap (λ ts. listed_at ts (number_in types P.state)) trees ∙ number_found types P.state listed.state) listed.functions emittable.shaped
 
   is_accepted : IsObject (object_of P names) → accepting (object_bytes (object_of P names)) ≡ Accepts (object_of P names)
   is_accepted h =
@@ -229,10 +222,12 @@ pub programs_are_accepted : ProgramsAreAccepted
 programs_are_accepted P names bytes emittable e =
     by (nat_le (length (object_bytes (object_of P names))) most_object_bytes) (nat_le (length (types_written P)) most_listed_types) refl refl e
   where
-    by : (a b : Bool) → nat_le (length (object_bytes (object_of P names))) most_object_bytes ≡ a → nat_le (length (types_written P)) most_listed_types ≡ b → (if a && b then Some (object_bytes (object_of P names)) else None) ≡ Some bytes → accepting bytes ≡ Accepts (object_of P names)
+    by : (a b : Bool) → nat_le (length (object_bytes (object_of P names))) most_object_bytes ≡ a → nat_le (length (types_written P)) most_listed_types ≡ b
+        → (if a && b then Some (object_bytes (object_of P names)) else None) ≡ Some bytes → accepting bytes ≡ Accepts (object_of P names)
     by true true fit few e =
         let listed = program_listed P emittable.closed in
         subst (λ l. accepting l ≡ Accepts (object_of P names)) (some_is e)
-        (is_accepted P names emittable listed (is_object P names emittable listed (leb-true (length (types_written P)) most_listed_types few) (leb-true (length (object_bytes (object_of P names))) most_object_bytes fit)))
+        (is_accepted P names emittable listed
+        (is_object P names emittable listed (leb-true (length (types_written P)) most_listed_types few) (leb-true (length (object_bytes (object_of P names))) most_object_bytes fit)))
     by true false fit few e = absurd (none_some e)
     by false b fit few e = absurd (none_some e)

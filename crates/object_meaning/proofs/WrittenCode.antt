@@ -17,18 +17,9 @@ use Rattle.object_meaning.specs.EmittablePrograms.{IsNamedTable}
 use Rattle.core_terms.specs.Kinds.{Way, way, ways_by_tag, ways, Known, Unreached, Reached, Clashing, reach, reach_all, behind, fault_or, first_fault}
 use Rattle.core_terms.proofs.KindsSound.{mapped, on_ways, length_reach, length_all, in_table}
 use Rattle.object_meaning.proofs.There.{IsThere, AreThere}
-use Rattle.object_meaning.proofs.ListedTypes.{Listing, AllIn, CodeIn}
+use Rattle.object_meaning.proofs.ListedTypes.{some_none, none_some, some_is, Listing, AllIn, CodeIn}
 use Rattle.object_meaning.proofs.ObjectCode.{named_there}
 use Rattle.object_meaning.proofs.WrittenWell.{length_constructors, below}
-
-none_some : {A : Type 0} {a : A} → None ≡ Some a → ⊥
-none_some e = cc
-
-some_none : {A : Type 0} {a : A} → Some a ≡ None → ⊥
-some_none e = cc
-
-some_is : {A : Type 0} {a b : A} → Some a ≡ Some b → a ≡ b
-some_is e = cc
 
 -- WAYS LEAD TO WHAT IS THERE
 reach_below : (n : ℕ) (s : Shape) (ks after : List Known) → reach n s ks ≡ Some after → n < length ks

@@ -29,5 +29,6 @@ all_there B (g ∷ gs) h = let f = h 0 in (there_of_fine B g.result g.code f.0 f
 pub written_there : (P : Program) → IsWrittenWell P → AllThere (written_body P) (written_body P).functions
 written_there P typed = all_there (written_body P) (written_body P).functions there
   where
-    there : (f : ℕ) → (shapes : List Shape) × IsFine (written_body P) (unwrap_or (slice_get (written_body P).functions f) no_function_code).result (unwrap_or (slice_get (written_body P).functions f) no_function_code).code shapes
+    there : (f : ℕ) → (shapes : List Shape) × IsFine (written_body P) (unwrap_or (slice_get (written_body P).functions f) no_function_code).result
+        (unwrap_or (slice_get (written_body P).functions f) no_function_code).code shapes
     there f = let h = written_accepted P typed f in (h.0, h.1)

@@ -10,25 +10,16 @@ use Rattle.object_meaning.specs.WrittenObjects.{place_of, number_in, named_from,
 use Rattle.object_meaning.specs.EmittablePrograms.{AreNewNames, HaveFewFields, IsNamedTable}
 use Rattle.object_meaning.proofs.ListedTypes.{In, place_found, place_in_front, number_found, HasParts, Behind, Listing, AllIn, AllFieldsIn, TableIn}
 
-none_some : {A : Type 0} {a : A} → None ≡ Some a → ⊥
-none_some e = cc
-
-some_none : {A : Type 0} {a : A} → Some a ≡ None → ⊥
-some_none e = cc
-
-some_is : {A : Type 0} {a b : A} → Some a ≡ Some b → a ≡ b
-some_is e = cc
-
 false_both : (a b : Bool) → (a && b ≡ true → ⊥) → a && b ≡ false
 false_both true true h = absurd (h refl)
 false_both true false h = refl
 false_both false b h = refl
 
-true_left : (a b : Bool) → a && b ≡ true → a ≡ true
+pub true_left : (a b : Bool) → a && b ≡ true → a ≡ true
 true_left true b e = refl
 true_left false b e = cc
 
-true_right : (a b : Bool) → a && b ≡ true → b ≡ true
+pub true_right : (a b : Bool) → a && b ≡ true → b ≡ true
 true_right true b e = e
 true_right false b e = cc
 
@@ -169,7 +160,8 @@ module _ (table : Table) (names : List (List (List ℕ))) (types : List Ty) wher
   differs TextTy TextTy e p q = absurd (cc)
   differs (PairTy a b) (PairTy c d) e p q =
       false_both (nat_eq (number_in types a) (number_in types c)) (nat_eq (number_in types b) (number_in types d))
-      (λ s. true_false (same_complete (PairTy c d) (PairTy a b) (ap₂ PairTy (sym (one_number a c p.0 q.0 (true_left _ _ s))) (sym (one_number b d p.1 q.1 (true_right (nat_eq (number_in types a) (number_in types c)) _ s))))) e)
+      (λ s. true_false (same_complete (PairTy c d) (PairTy a b) (ap₂ PairTy (sym (one_number a c p.0 q.0 (true_left _ _ s)))
+      (sym (one_number b d p.1 q.1 (true_right (nat_eq (number_in types a) (number_in types c)) _ s))))) e)
   differs (AuthTy a) (AuthTy c) e p q = not_true (nat_eq (number_in types a) (number_in types c)) (λ s. true_false (same_complete (AuthTy c) (AuthTy a) (ap AuthTy (sym (one_number a c p q s)))) e)
   differs (VecTy n a) u e p q = elim p [ ]
   differs t (VecTy n a) e p q = elim q [ ]

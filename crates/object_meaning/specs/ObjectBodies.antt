@@ -38,9 +38,6 @@ named_tables trees [] = []
 named_tables trees (ListedNamed constructors ∷ ts) = map (λ (c : ListedConstructor). map (listed_at trees) c.fields) constructors ∷ named_tables trees ts
 named_tables trees (t ∷ ts) = named_tables trees ts
 
-abbrev pub table_in : List ListedType → Table
-table_in types = named_tables (trees_of types) types
-
 -- the names of the constructors of each named type, by number and by tag
 abbrev pub constructor_names : List ListedType → List (List (List ℕ))
 constructor_names [] = []

@@ -10,10 +10,8 @@ use crate::fault::ReadFault;
 use crate::functions::function_list;
 use crate::types::type_list;
 use crate::{Object, ObjectFault};
+use core_terms::OBJECT_MAGIC;
 use std::alloc::Global;
-
-/// The bytes that an object begins with.
-const MAGIC: [u8; 4] = *b"LAO1";
 
 /// How many types an object lists at most, and how many functions.
 const MOST_TYPES: u32 = 100_000;
@@ -51,7 +49,7 @@ pub fn read_object<'a>(alloc: Global, bytes: &'a [u8]) -> Result<Object<'a>, Obj
 fn object<'a>(alloc: Global, cursor: &mut Cursor<'a>) -> Result<Object<'a>, ReadFault>
     ensures { Reads object_of (reads read.object_read cursor.old) cursor.new result }
 {
-    cursor.magic(&MAGIC)?;
+    cursor.magic(&OBJECT_MAGIC)?;
     let count = cursor.u32_to(MOST_TYPES)?;
     let types = type_list(alloc, cursor, count as usize)?;
     let state = cursor.u32_below(count as usize)?;

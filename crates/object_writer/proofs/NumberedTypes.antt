@@ -3,7 +3,7 @@ use Rattle.std.proofs.Common.{◌≡◌, ◌≢◌, ◌≤◌, ◌<◌, ℕ, zer
 use Rattle.std.proofs.Math.ListN.{get_or-append}
 use Rattle.std.proofs.Math.Seq.{get_or-append_seam}
 use Rattle.std.proofs.lemmas.Bool.{ltb-false}
-use Rattle.std.proofs.lemmas.List.{append-nil, get_or-map, get_or_default, get_or_past, length-map, map-append}
+use Rattle.std.proofs.lemmas.List.{append-nil, get_or-map, get_or_past, length-map, map-append}
 use Rattle.std.proofs.lemmas.Option.{slice_get-get_or, slice_get_within, get_or_from_slice_get}
 use Rattle.core_terms.specs.Types.{Ty, UnitTy, BoolTy, IntTy, TextTy, PairTy, NamedTy, AuthTy, VecTy, Table, same_type}
 use Rattle.core_terms.specs.TypeTables.{type_at, type_of_form, HasOneNumber}
@@ -145,18 +145,13 @@ module _ (types : Types) (n : Numbering) (none : n.order.items ≡ []) where
       all = only_named;
     }
 
--- THE NUMBER OF A TYPE, AND WHETHER IT IS LISTED
+-- HOW MANY TYPES ARE LISTED
 pub length-listed : (types : Types) (n : Numbering) → length (listed types n) ≡ length types.named.items + length n.order.items
 length-listed types n =
     let all = types_by_number types in
     length-append (named_from 0 (named_table types)) (types_at all n.order.items)
     ∙ ap (λ k. k + length (types_at all n.order.items)) (length-named 0 (named_table types) ∙ length-map types.named.items _)
     ∙ ap (λ k. length types.named.items + k) (length-map n.order.items (type_at all))
-
-module _ (types : Types) (n : Numbering) (right : IsNumbering types n) (ty known : TyId) (same : type_at (types_by_number types) known ≡ type_at (types_by_number types) ty)
-    (within : known.0 < length n.numbers.items) (number : Option ℕ) (is : number ≡ get_or n.numbers.items known.0 number) where
-  pub its_place : number ≡ place_of (listed types n) (type_at (types_by_number types) ty)
-  its_place = is ∙ get_or_default n.numbers.items known.0 number None within ∙ right.numbers known.0 within ∙ ap (place_of (listed types n)) same
 
 -- ONE TYPE IS LISTED
 module _ (types : Types) (n m : Numbering) (ty : TyId) (right : IsNumbering types n) (within : ty.0 < length n.numbers.items)

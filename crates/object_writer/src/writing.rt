@@ -19,11 +19,8 @@ use crate::numbering::Numbering;
 use crate::types::{put_named_types, put_other_types};
 use crate::walk::number_types;
 use code_gen::Code;
-use core_terms::Types;
+use core_terms::{OBJECT_MAGIC, Types};
 use std::alloc::Global;
-
-/// The bytes that an object begins with.
-const MAGIC: [u8; 4] = *b"LAO1";
 
 /// The object of a written program of the first format, by its code. It lists the named types in the order of declarations and then,
 /// each once and behind its parts, the types of their fields, that of the state, and function by function those of the parameters, of the
@@ -73,7 +70,7 @@ fn put_types(
     requires few { All HasFewParts (named_table types.now) }
     ensures { Adds (written_so_far object.old) (types_part types.now (listed types.now numbering.now)) (written_so_far object.new) result }
 {
-    object.put(&MAGIC)?;
+    object.put(&OBJECT_MAGIC)?;
     object.put_word(numbering.len(types) as u32)?;
     put_named_types(object, numbering, types)?;
     put_other_types(object, numbering, types)

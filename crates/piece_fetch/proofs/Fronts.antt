@@ -1,14 +1,11 @@
 -- What stands in front of a spelling.
-use Rattle.std.proofs.Common.{◌≡◌, ℕ, zero, suc, ◌+◌, ◌<◌, ◌≤◌, Bool, true, false, List, [], ◌∷◌, length, drop, get_or, Some, nat_eq, slice_get, if◌then◌else◌, refl, sym, ap, ap₂, ◌∙◌, subst, arith, eqb-true, drop-cons}
-use Rattle.std.proofs.Math.Seq.{drop-length}
-use Rattle.std.proofs.lemmas.Bool.{eq-eqb}
-use Rattle.std.proofs.lemmas.Option.{slice_get_within, get_or_from_slice_get}
+use Rattle.std.proofs.Common.{◌≡◌, ℕ, zero, suc, ◌+◌, ◌<◌, ◌≤◌, Bool, true, false, List, [], ◌∷◌, length, drop, get_or, Some, nat_eq, slice_get, if◌then◌else◌, refl, sym, ap, ◌∙◌, arith, eqb-true, drop-cons}
 use Rattle.core_terms.specs.Formats.{Hash, IsHash, fingerprint}
 use Rattle.core_terms.specs.ProgramFormats.{front}
 use Rattle.core_terms.specs.Types.{Ty, UnitTy, BoolTy, IntTy, TextTy, PairTy, NamedTy, AuthTy, VecTy}
 use Rattle.core_terms.specs.declared.format.Format.{Format}
 use Rattle.core_terms.specs.declared.format.Format.TheVariants.{First, Second}
-use Rattle.core_terms.specs.Reading.{Read, Good, BadAt}
+use Rattle.core_terms.specs.Reading.{Read, BadAt}
 use Rattle.core_terms.specs.Values.{Value}
 use Rattle.ideal_meaning.specs.PieceForms.{further, read_behind}
 
@@ -27,25 +24,13 @@ pub short_front : (hash : Hash) → IsHash hash → (format : Format) (text : Li
 short_front hash is_hash First text t = omega arith
 short_front hash is_hash Second text t = let long = length_fingerprint hash is_hash (hash text) t in omega (arith, long)
 
--- reading goes on further on
-further_on : (m n : ℕ) (r : Read Value) → further m (further n r) ≡ further (m + n) r
-further_on m n (Good v rest end) = let e : m + (n + end) ≡ (m + n) + end = omega arith in ap (Good v rest) e
-further_on m n (BadAt offset) = let e : m + (n + offset) ≡ (m + n) + offset = omega arith in ap BadAt e
-
-further_none : (r : Read Value) → r ≡ further 0 r
-further_none (Good v rest end) = let e : end ≡ 0 + end = omega arith in ap (Good v rest) e
-further_none (BadAt offset) = let e : offset ≡ 0 + offset = omega arith in ap BadAt e
-
 get_drop : (xs : List ℕ) (n : ℕ) → slice_get (drop n xs) 0 ≡ slice_get xs n
 get_drop xs zero = refl
 get_drop [] (suc n) = refl
 get_drop (x ∷ xs) (suc n) = get_drop xs n
 
 module _ (reading : List ℕ → Read Value) where
-  -- one byte of the front
-  same_byte : (c : ℕ) (front piece : List ℕ) → read_behind (c ∷ front) reading (c ∷ piece) ≡ further 1 (read_behind front reading piece)
-  same_byte c front piece = ap (λ b. if b then further 1 (read_behind front reading piece) else BadAt 0) (eq-eqb c c refl)
-
+  -- another byte than the front's
   other_byte : (c : ℕ) (front piece : List ℕ) → (slice_get piece 0 ≡ Some c → ⊥) → read_behind (c ∷ front) reading piece ≡ BadAt 0
   other_byte c front [] other = refl
   other_byte c front (b ∷ piece) other = by (nat_eq c b) refl
@@ -60,29 +45,12 @@ module _ (front piece : List ℕ) where
     pub within : place ≤ length piece
     pub reads : (reading : List ℕ → Read Value) → read_behind front reading piece ≡ further place (read_behind (drop place front) reading (drop place piece))
 
-  pub agrees_first : AgreesTo 0
-  agrees_first = record { within = omega arith; reads = λ reading. further_none (read_behind front reading piece) }
-
   module _ (place : ℕ) (inside : place < length front) (agrees : AgreesTo place) where
     next : suc place ≡ place + 1
     next = omega arith
 
     front_at_place : drop place front ≡ get_or front place 0 ∷ drop (place + 1) front
     front_at_place = drop-cons front place 0 inside ∙ ap (λ n. get_or front place 0 ∷ drop n front) next
-
-    pub agrees_on : slice_get piece place ≡ Some (get_or front place 0) → AgreesTo (place + 1)
-    agrees_on there =
-        let c = get_or front place 0 in
-        let here = slice_get_within piece place c there in
-        let at : drop place piece ≡ c ∷ drop (place + 1) piece =
-        drop-cons piece place 0 here ∙ ap (λ b. b ∷ drop (suc place) piece) (get_or_from_slice_get piece place c 0 there) ∙ ap (λ n. c ∷ drop n piece) next in
-        record {
-          within = omega (arith, here);
-          reads = λ reading.
-              agrees.reads reading ∙ ap₂ (λ f p. further place (read_behind f reading p)) front_at_place at
-              ∙ ap (further place) (same_byte reading c (drop (place + 1) front) (drop (place + 1) piece))
-              ∙ further_on place 1 (read_behind (drop (place + 1) front) reading (drop (place + 1) piece));
-        }
 
     -- the first byte that is missing or another one
     pub parts_there : (slice_get piece place ≡ Some (get_or front place 0) → ⊥) → (reading : List ℕ → Read Value) → read_behind front reading piece ≡ BadAt place
@@ -91,9 +59,3 @@ module _ (front piece : List ℕ) where
         agrees.reads reading ∙ ap (λ f. further place (read_behind f reading (drop place piece))) front_at_place
         ∙ ap (further place) (other_byte reading (get_or front place 0) (drop (place + 1) front) (drop place piece) (λ e. other (sym (get_drop piece place) ∙ e)))
         ∙ ap BadAt none
-
-  -- all of the front is there
-  pub agrees_all : (place : ℕ) → place ≡ length front → AgreesTo place → (reading : List ℕ → Read Value) → read_behind front reading piece ≡ further (length front) (reading (drop (length front) piece))
-  agrees_all place is agrees reading =
-      let at = subst AgreesTo is agrees in
-      at.reads reading ∙ ap (λ f. further (length front) (read_behind f reading (drop (length front) piece))) (drop-length front)

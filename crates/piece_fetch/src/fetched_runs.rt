@@ -23,6 +23,7 @@ use value_store::{Nodes, Ref};
 use wire_form::Fetch;
 
 /// Calls a function on values of the store, as a verifier that fetches each piece that is opened, with at most 10^12 units of fuel.
+/// The store has the limit of the program's format.
 ///
 /// # Errors
 ///

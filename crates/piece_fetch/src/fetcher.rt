@@ -80,8 +80,6 @@ impl<H: Hash32, F: Fetch> Mode for Fetcher<H, F> {
 
     ghost rest = { λ world. F.rest world };
 
-    ghost Moves = { λ a v b w. Unit {0} };
-
     ghost moves_not = { λ a v. tt };
 
     ghost moves_on = { λ a b c v w x h k. tt };

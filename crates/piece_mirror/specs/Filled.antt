@@ -1,13 +1,11 @@
 -- The pieces of a state, put into a mirror.
-use Rattle.std.specs.Prelude.{◌≡◌, ℕ, List, [], ◌∷◌, ◌++◌, map, refl, unwrap_or}
+use Rattle.std.specs.Prelude.{ℕ, List, [], ◌∷◌, ◌++◌, map, unwrap_or}
 use Rattle.core_terms.specs.Formats.{Hash}
-use Rattle.core_terms.specs.ProgramTypes.{types_meaning}
-use Rattle.core_terms.specs.Projection.{digest_at, projection}
+use Rattle.core_terms.specs.Projection.{projection}
 use Rattle.core_terms.specs.Spelling.{spelling}
 use Rattle.core_terms.specs.Terms.{Program}
 use Rattle.core_terms.specs.Types.{Ty}
 use Rattle.core_terms.specs.Values.{Value}
-use Rattle.core_terms.specs.declared.program_types.Types.{Types}
 use Rattle.images.specs.AuthOrders.{auth_entries}
 use Rattle.images.specs.Images.{Entry}
 use Rattle.piece_mirror.specs.Mirrors.{added}
@@ -28,8 +26,3 @@ module _ (hash : Hash) (P : Program) where
 abbrev pub all_added : List (List ℕ) → List (List ℕ) → List (List ℕ)
 all_added pieces [] = pieces
 all_added pieces (p ∷ ps) = all_added (added pieces p) ps
-
--- In both formats a piece is found by the digest of the spelling at the type, which is what a verifier holds of the value.
-found_by_its_digest : (hash : Hash) (types : Types) (t : Ty) (v : Value)
-    → hash (piece_of hash (types_meaning types) t v) ≡ digest_at hash (types_meaning types) t (spelling (projection hash (types_meaning types) t v))
-found_by_its_digest hash types t v = refl

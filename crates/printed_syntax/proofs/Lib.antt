@@ -2,7 +2,7 @@
 pub mod LineLemmas
 pub mod TreeTokens
 pub mod PrintedForms
--- printing::leaves::push_quoted, and the lengths of texts in printing::leaf_lengths
+-- the lengths of texts in printing::leaf_lengths
 pub mod PrintedTexts
 -- printing::leaves and printing; Composites has the measure of its cycle, and of that of printing::counts
 pub mod PrintedFronts

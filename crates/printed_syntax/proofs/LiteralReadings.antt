@@ -14,16 +14,14 @@ use Rattle.core_terms.specs.declared.format.Format.TheVariants.{First, Second}
 use Rattle.core_terms.proofs.Spelled.{length_spelling}
 use Rattle.lexemes.specs.declared.place.Place.{Place}
 use Rattle.lexemes.specs.declared.fault.SyntaxKind.{SyntaxKind}
-use Rattle.lexemes.specs.Readings.{SyntaxFault}
+use Rattle.lexemes.specs.Readings.{SyntaxFault, Reading, Found, read_end}
 use Rattle.core_terms.specs.declared.fault.Fault.TheVariants.{At, NoMemory}
 use Rattle.printed_syntax.specs.LiteralAnswers.{LiteralFault}
 use Rattle.core_terms.specs.declared.fault.Fault.TheVariants as told
 use Rattle.printed_syntax.specs.declared.fault.LiteralKind.TheVariants.{Mismatch, TooBig}
 use Rattle.lexemes.specs.Tokens.{Tokens, Next, End, Faulty, tokens}
 use Rattle.lexemes.specs.Readings as syntax
-use Rattle.lexemes.specs.Readings.{Reading, Found}
 use Rattle.lexemes.specs.Remaining.{Reads}
-use Rattle.lexemes.specs.Remaining.{read_end}
 use Rattle.printed_syntax.specs.Literals.{ConstructorNames, LiteralReading, Means, literal_of, Literal, IsValue, FirstFault, at_end, whole_literal, value_within, literal_in, written_in}
 use Rattle.printed_syntax.specs.LiteralAnswers.{ReadsLiteral}
 use Rattle.printed_syntax.specs.LiteralSteps.{IsWithinLimit, ReadsPart, ReadsWhole, literal_kind, spelled, told_of_literal}

@@ -1,8 +1,8 @@
 -- The spelling of what is read of a literal, from part to part.
-use Rattle.std.proofs.Common.{◌≡◌, ◌≢◌, ℕ, zero, suc, ◌+◌, ◌-◌, ◌<◌, ◌∙◌, List, [], ◌∷◌, ◌++◌, Some, None, Result, Ok, Err, bytes_eq, option_map, if◌then◌else◌, refl, ap, ap₂, sym, subst, arith, append_assoc, append-nil}
+use Rattle.std.proofs.Common.{◌≡◌, ◌≢◌, ℕ, zero, suc, ◌+◌, ◌-◌, ◌<◌, ◌∙◌, List, [], ◌∷◌, ◌++◌, Some, None, Result, Ok, Err, bytes_eq, option_map, if◌then◌else◌, refl, ap, ap₂, sym, arith, append_assoc, append-nil}
 use Rattle.std.specs.List.{position}
 use Rattle.core_terms.specs.Types.{Ty, Table, fields_at, item_types}
-use Rattle.core_terms.specs.Values.{Value, UnitV, ConV, ItemsV, Values, AndV}
+use Rattle.core_terms.specs.Values.{Value, UnitV, ConV, Values, AndV}
 use Rattle.core_terms.specs.Spelling.{spelling, spellings}
 use Rattle.core_terms.specs.declared.program.Program.{Program}
 use Rattle.core_terms.proofs.Places.{first_place}
@@ -12,9 +12,9 @@ use Rattle.printed_syntax.specs.declared.fault.LiteralKind.{LiteralKind}
 use Rattle.printed_syntax.specs.declared.fault.LiteralKind.TheVariants.{Mismatch}
 use Rattle.lexemes.specs.declared.place.Place.{Place}
 use Rattle.lexemes.specs.declared.token.Mark.{Mark}
-use Rattle.lexemes.specs.declared.token.Mark.TheVariants.{LeftParenthesis, RightParenthesis, Comma, LeftBracket, RightBracket}
+use Rattle.lexemes.specs.declared.token.Mark.TheVariants.{LeftParenthesis, RightParenthesis, Comma}
 use Rattle.lexemes.specs.Tokens.{UpperToken, Tokens, Next}
-use Rattle.printed_syntax.specs.Literals.{ConstructorNames, LiteralReading, Means, FaultAt, then_means, behind_mark, pair_literal, more_values, values_up_to, fields_literal, array_literal, number_of_name, constructor_with, constructor_named, constructor_literal, too_deep}
+use Rattle.printed_syntax.specs.Literals.{ConstructorNames, LiteralReading, Means, FaultAt, then_means, behind_mark, more_values, values_up_to, fields_literal, number_of_name, constructor_with, constructor_named, constructor_literal}
 use Rattle.printed_syntax.specs.LiteralSteps.{ReadsPart, behind_comma, values_from, literal_on, spelled}
 
 -- where each value that may be read goes on as here, so does what is read, spelled
@@ -30,24 +30,6 @@ spelled_mark : {A B : Type 0} (all : B → List ℕ) (before : List ℕ) (readin
     → spelled all before (then_means reading go) ≡ then_means reading on
 spelled_mark all before (Means v rest) go on h = h v rest
 spelled_mark all before (FaultAt kind offset) go on h = refl
-
-abbrev pub pair_spelling : (first second : Tokens → LiteralReading Value) → List ℕ → Tokens → LiteralReading (List ℕ)
-pair_spelling first second before tokens =
-    then_means (behind_mark LeftParenthesis tokens) (λ _ tokens.
-    then_means (spelled spelling before (first tokens)) (λ bytes tokens.
-    then_means (behind_mark Comma tokens) (λ _ tokens.
-    then_means (spelled spelling bytes (second tokens)) (λ bytes tokens.
-    then_means (behind_mark RightParenthesis tokens) (λ _ tokens. Means bytes tokens)))))
-
-pub pair_spelled : (first second : Tokens → LiteralReading Value) (before : List ℕ) (tokens : Tokens)
-    → spelled spelling before (pair_literal first second tokens) ≡ pair_spelling first second before tokens
-pair_spelled first second before tokens =
-    spelled_mark spelling before (behind_mark LeftParenthesis tokens) _ _ (λ _ tokens.
-    spelled_then spelling spelling before before (first tokens) _ _ (λ a tokens.
-    spelled_mark spelling before (behind_mark Comma tokens) _ _ (λ _ tokens.
-    spelled_then spelling spelling before (before ++ spelling a) (second tokens) _ _ (λ b tokens.
-    spelled_mark spelling before (behind_mark RightParenthesis tokens) _ _ (λ _ tokens.
-    ap (λ bytes. Means bytes tokens) (sym (append_assoc before (spelling a) (spelling b))))))))
 
 -- values behind a first one
 and_spelled : (before : List ℕ) (v : Value) (reading : LiteralReading Values)
@@ -128,18 +110,7 @@ module _ (one : Ty → Tokens → LiteralReading Value) where
       ap (λ reading. spelled spellings before (then_means reading (λ _ tokens. values_up_to RightParenthesis one (t ∷ ts) tokens))) h
       ∙ value_read RightParenthesis one zero t ts before bytes behind behind rest refl e
 
-  -- the elements of an array, which are spelled as they are
-  elements_spelled : (before : List ℕ) (reading : LiteralReading Values)
-      → spelled spelling before (then_means reading (λ vs tokens. Means (ItemsV vs) tokens)) ≡ spelled spellings before reading
-  elements_spelled before (Means vs rest) = refl
-  elements_spelled before (FaultAt kind offset) = refl
-
-  pub array_begun : (n : ℕ) (t : Ty) (before : List ℕ) (tokens behind : Tokens) → behind_mark LeftBracket tokens ≡ Means tt behind
-      → spelled spelling before (array_literal one n t tokens) ≡ spelled spellings before (values_from zero RightBracket one (item_types n t) behind)
-  array_begun n t before tokens behind h =
-      ap (λ reading. spelled spelling before (then_means reading (λ _ tokens. then_means (values_up_to RightBracket one (item_types n t) tokens) (λ vs tokens. Means (ItemsV vs) tokens)))) h
-      ∙ elements_spelled before (values_up_to RightBracket one (item_types n t) behind)
-
+  -- the fields of a constructor, behind its tag
   tag_spelled : (before : List ℕ) (tag : ℕ) (reading : LiteralReading Values)
       → spelled spelling before (then_means reading (λ vs tokens. Means (ConV tag vs) tokens)) ≡ spelled spellings (before ++ tag ∷ []) reading
   tag_spelled before tag (Means vs rest) = ap (λ bytes. Means bytes rest) (sym (append_assoc before (tag ∷ []) (spellings vs)))
@@ -186,14 +157,6 @@ level_is (suc n) some = ap suc (less_one n)
 pub at_level : (program : Program) (levels : ℕ) (t u : Ty) (tokens : Tokens) → levels ≢ 0 → u ≡ t
     → literal_on program (suc (levels - 1)) u tokens ≡ literal_on program levels t tokens
 at_level program levels t u tokens some same = ap₂ (λ n t. literal_on program n t tokens) (sym (level_is levels some)) same
-
--- with no level left a value is refused
-pub on_no_level : (program : Program) (t : Ty) (before : List ℕ) (tokens rest : Tokens) (result : Result (Unit {0}) SyntaxFault) (levels : ℕ) → levels ≡ 0
-    → ReadsPart (λ (_ : Unit {0}). UnitV) (too_deep tokens) result rest
-    → ReadsPart (λ (_ : Unit {0}). before) (spelled spelling before (literal_on program levels t tokens)) result rest
-on_no_level program t before tokens rest result levels none e =
-    subst (λ (n : ℕ). ReadsPart (λ (_ : Unit {0}). before) (spelled spelling before (literal_on program n t tokens)) result rest) (sym none)
-    (unit_spelled before (too_deep tokens) result rest e)
 
 -- the spelling that was read is that of a value that was read
 pub spelled_found : (before after : List ℕ) (reading : LiteralReading Value) (rest : Tokens) → spelled spelling before reading ≡ Means after rest

@@ -79,10 +79,6 @@ module _ (p : Program) (t : Ty) where
       }
   parted (first ∷ ts) NoV h = elim h [ ]
 
-pub none_printed : (p : Program) (bytes before : List ℕ) → ArePrinted p [] bytes before before bytes
-none_printed p bytes before NoV shapes small behind is = (sym (append-nil before), is)
-none_printed p bytes before vs shapes small behind is = elim shapes [ ]
-
 -- with one more, behind what stands before it
 more_printed : (p : Program) (ts : List Ty) (t : Ty) (i : ℕ) (bytes before text left comma text' left' : List ℕ) → length ts ≡ i → comma ≡ text ++ comma_before i
     → length left ≤ length bytes → ArePrinted p ts bytes before text left → IsPrinted p t left comma text' left' → ArePrinted p (ts ++ t ∷ []) bytes before text' left'

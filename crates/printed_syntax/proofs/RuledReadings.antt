@@ -34,10 +34,6 @@ pub judges_more : {A : Type 0} (P Q : A → Tokens → Type 0) (F G : LiteralKin
 judges_more P Q F G (Means value rest) more faults h = more value rest h
 judges_more P Q F G (FaultAt kind offset) more faults h = faults kind offset h
 
-pub judged_value : {A : Type 0} (P : A → Tokens → Type 0) (F : LiteralKind → ℕ → Type 0) (reading : LiteralReading A) (value : A) (rest : Tokens)
-    → Judges P F reading → reading ≡ Means value rest → P value rest
-judged_value P F reading value rest h is = subst (Judges P F) is h
-
 pub judged_fault : {A : Type 0} (P : A → Tokens → Type 0) (F : LiteralKind → ℕ → Type 0) (reading : LiteralReading A) (kind : LiteralKind) (offset : ℕ)
     → Judges P F reading → reading ≡ FaultAt kind offset → F kind offset
 judged_fault P F reading kind offset h is = subst (Judges P F) is h

@@ -1,16 +1,17 @@
 -- The next frame, from the parts that came.
-use Rattle.std.proofs.Common.{◌≡◌, ◌≢◌, ℕ, ◌+◌, ◌<◌, ◌≤◌, List, [], ◌∷◌, ◌++◌, length, length-append, take, drop, Option, Some, None, Result, Ok, Err, IsErrAnd, slice_index, sym, ap, subst, ◌∙◌, arith}
+use Rattle.std.proofs.Common.{◌≡◌, ℕ, ◌+◌, ◌<◌, ◌≤◌, List, [], ◌∷◌, ◌++◌, length, length-append, take, drop, Option, Some, None, Result, Ok, Err, IsErrAnd, slice_index, sym, ap, subst, ◌∙◌, arith}
 use Rattle.std.proofs.Math.Seq.{drop-append_seam}
 use Rattle.std.proofs.lemmas.List.{drop-drop, take-append-le, take_all}
 use Rattle.std.specs.Io.KnownBytes.{prepend_known}
-use Rattle.ideal_meaning.specs.Frames.{NoByte, KindIs, LongBy}
+use Rattle.ideal_meaning.specs.Frames.{LongBy}
 use Rattle.proof_stream.specs.declared.frame.Frame.{Frame}
 use Rattle.proof_stream.specs.declared.frame.Frame.TheVariants.{New, Back}
 use Rattle.proof_stream.specs.declared.frame.FrameEnd.{FrameEnd}
 use Rattle.proof_stream.specs.declared.frame.FrameEnd.TheVariants.{End, BadKind, Cut, PieceLong, ReadFault, NoMemory}
-use Rattle.proof_stream.specs.Incoming.{KindCame, LengthCame, NumberCame, PieceCame, TookAtMost, length_field}
+use Rattle.proof_stream.specs.Incoming.{KindCame, LengthCame, NumberCame, PieceCame, length_field}
+use Rattle.lam_outside.specs.Told.{TookAtMost}
 use Rattle.proof_stream.specs.TakenFrames.{TakesFrame, OffersNothing, OffersNew, OffersBack}
-use Rattle.proof_stream.proofs.Offering.{back_cut, back_offered, behind, new_cut, new_headless, new_long, new_offered, no_byte, other_kind, piece_in}
+use Rattle.proof_stream.proofs.Offering.{back_cut, back_offered, behind, new_cut, new_headless, new_long, new_offered, piece_in}
 
 -- a result that is the end that came
 pub ends_with : {T : Type 0} (P : Result T FrameEnd → Type 0) (e : FrameEnd) (result : Result T FrameEnd) → IsErrAnd result (λ x. x ≡ e) → P (Err e) → P result
@@ -71,24 +72,10 @@ module _ (limit : ℕ) (rest piece : List ℕ) where
   number_taken k left came =
       (drop 2 rest, subst (λ k. OffersBack limit (1 ∷ rest) k (drop 2 rest)) (sym came.1) (back_offered limit rest came.0), came.2)
 
--- the first byte
-pub kind_ends : (limit : ℕ) (bytes piece : List ℕ) (left : Option (List ℕ)) (e : FrameEnd) → KindCame bytes left (Err e) → TakesFrame limit bytes piece left (Err e)
-kind_ends limit bytes piece left End came = (subst (λ bytes. OffersNothing limit bytes NoByte) (sym came.0) (no_byte limit), came.1)
-kind_ends limit bytes piece left ReadFault came = (came.0, omega (arith, came.1), came.2)
-kind_ends limit bytes piece left (BadKind kind) came = absurd came
-kind_ends limit bytes piece left Cut came = absurd came
-kind_ends limit bytes piece left (PieceLong len) came = absurd came
-kind_ends limit bytes piece left NoMemory came = absurd came
-
 -- the bytes, by their first
 pub begun : (kind : ℕ) (bytes : List ℕ) → 1 ≤ length bytes → kind ≡ slice_index bytes 0 → bytes ≡ kind ∷ drop 1 bytes
 begun kind [] some is = absurd (omega (arith, some))
 begun kind (b ∷ bytes) some is = ap (λ b. b ∷ bytes) (sym is)
-
-pub kind_unknown : (limit kind : ℕ) (bytes piece : List ℕ) (left : Option (List ℕ)) → KindCame bytes left (Ok kind) → kind ≢ 0 → kind ≢ 1 → TakesFrame limit bytes piece left (Err (BadKind kind))
-kind_unknown limit kind bytes piece left came not_new not_use =
-    let e = begun kind bytes came.0 came.1 in
-    (subst (λ bytes. OffersNothing limit bytes (KindIs kind)) (sym e) (other_kind limit kind (drop 1 bytes) not_new not_use), came.2)
 
 pub kind_known : (limit kind known : ℕ) (bytes piece : List ℕ) (middle left : Option (List ℕ)) (result : Result Frame FrameEnd) → kind ≡ known → KindCame bytes middle (Ok kind)
     → TakesFrame limit (known ∷ drop 1 bytes) piece left result → TakesFrame limit bytes piece left result

@@ -2,12 +2,9 @@
 use Rattle.std.specs.Prelude.{◌≡◌, ℕ, ◌<◌, ◌≤◌, List, [], length, take, drop, slice_index, Option, Some, Result, Ok, Err}
 use Rattle.std.specs.Int.{w16, w32, from_be_bytes}
 use Rattle.lam_outside.specs.Causes.{Rose}
+use Rattle.lam_outside.specs.Told.{TookAtMost}
 use Rattle.proof_stream.specs.declared.frame.FrameEnd.{FrameEnd}
 use Rattle.proof_stream.specs.declared.frame.FrameEnd.TheVariants.{End, BadKind, Cut, PieceLong, ReadFault, NoMemory}
-
--- at most n of these bytes were taken, from their front
-abbrev pub TookAtMost : ℕ → List ℕ → Option (List ℕ) → Type 0
-TookAtMost n bytes left' = (taken : ℕ) × (taken ≤ n) × (left' ≡ Some (drop taken bytes))
 
 -- The first byte was read; or there is none; or the source failed before it had come.
 abbrev pub KindCame : List ℕ → Option (List ℕ) → Result ℕ FrameEnd → Type 0

@@ -12,7 +12,7 @@ use Rattle.proof_stream.specs.declared.frame.FrameEnd.{FrameEnd}
 use Rattle.proof_stream.specs.declared.frame.FrameEnd.TheVariants.{End, BadKind, Cut, PieceLong, ReadFault, NoMemory}
 use Rattle.proof_stream.specs.declared.frame.HeadEnd.{HeadEnd}
 use Rattle.proof_stream.specs.declared.frame.HeadEnd.TheVariants as head
-use Rattle.proof_stream.specs.Incoming.{TookAtMost}
+use Rattle.lam_outside.specs.Told.{TookAtMost}
 
 -- The bytes offer this piece, which is new, and then what `rest` offers, whatever came before and however many pieces are kept.
 abbrev pub OffersNew : (limit : ℕ) (bytes piece rest : List ℕ) → Type 0

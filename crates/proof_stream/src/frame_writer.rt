@@ -17,7 +17,7 @@ pub fn put_header(out: &mut Vec<u8>, magic: [u8; 4], size: u16) -> Result<(), Al
     out.extend_from_slice(&size.to_be_bytes())
 }
 
-/// Puts a frame with a new piece behind the buffer.
+/// Puts a frame with a new piece, of fewer than 2^32 bytes, behind the buffer.
 ///
 /// Where memory is wanting, a front of it was put.
 pub fn put_new(out: &mut Vec<u8>, piece: &[u8]) -> Result<(), AllocError>

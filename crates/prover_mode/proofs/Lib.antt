@@ -8,9 +8,9 @@ pub mod Pieces
 pub mod FrameLengths
 -- spelled_outcome: the outcome with the spelling of its value
 pub mod SpelledOutcomes
--- prove_file: that the file is accepted
+-- prove_file_reusing: that the file is accepted
 pub mod Accepted
--- prove, prove_file: the parts of a call by the types of the code's program, and a ring before its first piece
+-- prove, prove_file_reusing, finish_within: the parts of a call by the types of the code's program, and a ring before its first piece
 pub mod CallParts
--- Proving's turn, and the callers of it over nodes that were put behind
+-- Proving's turn, and prove
 pub mod Pausing

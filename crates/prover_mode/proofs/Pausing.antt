@@ -11,7 +11,6 @@ use Rattle.ideal_meaning.specs.Ideal as ideal
 use Rattle.ideal_meaning.specs.Run.{fuel_of}
 use Rattle.value_store.specs.Markings.{ProverMarking}
 use Rattle.value_store.specs.Nodes.{Node}
-use Rattle.value_store.specs.Standing.{Keeps}
 use Rattle.value_store.specs.declared.node.Ref.{Ref}
 use Rattle.code_gen.specs.Programs.{program_in}
 use Rattle.code_gen.specs.declared.code.Code.{Code}
@@ -23,10 +22,9 @@ use Rattle.mode_vm.specs.declared.state.State.{State}
 use Rattle.mode_vm.specs.declared.state.Step.{Step}
 use Rattle.mode_vm.specs.declared.state.Step.TheVariants.{Paused, Ended}
 use Rattle.mode_vm.proofs.Fuel.{due_takes}
-use Rattle.mode_vm.proofs.Growing.{will_on}
 use Rattle.mode_vm.proofs.IdealOutcomes.{tells_digested}
-use Rattle.prover_mode.specs.Seen.{AreSeen, seen_keeps}
-use Rattle.prover_mode.specs.Turns.{HasRun, IsProving, TurnEnds}
+use Rattle.prover_mode.specs.Seen.{AreSeen}
+use Rattle.prover_mode.specs.Turns.{IsProving, TurnEnds}
 use Rattle.prover_mode.specs.declared.turns.Proving.{Proving}
 use Rattle.prover_mode.proofs.Running.{seen_then}
 
@@ -42,22 +40,6 @@ module _ (hash : Hash) (code : Code) where
   abbrev P : Program
   P = program_of code
 
-  -- A call is proved on as well, and has run, after nodes were put behind.
-  module _ (old new : List Node) (keeps : Keeps old new) {A : Type 0} (proving : Proving A) (f : ℕ) (vs : Values) (k : ℕ) where
-    pub proving_on : (made : ℕ) → IsProving hash code old proving f vs k made → IsProving hash code new proving f vs k made
-    proving_on made h = record {
-      seen = h.seen;
-      opened = seen_keeps hash (program_in code).types old new keeps proving.machine.mode.opened.items h.seen h.opened;
-      runs = will_on (ProverMarking hash) P (function_at P f).result old new keeps proving.machine.state h.seen (ideal.ideal P f vs k) h.runs;
-      calls = h.calls;
-      due = h.due;
-      knows = h.knows;
-      few = h.few;
-    }
-
-    pub has_run_on : HasRun hash code old proving f vs k → HasRun hash code new proving f vs k
-    has_run_on h = record { opened = seen_keeps hash (program_in code).types old new keeps proving.machine.mode.opened.items _ h.opened }
-
   -- the fuel that is left where a run came to an outcome
   left_over : (z : Ty) {F : Type 0} (cause : F → Option (CauseOf (ProverMarking hash))) (New : List ideal.Opened → Type 0) (nodes : List Node) (n : ℕ) (o : Outcome Ref)
       (run : RunOf (ProverMarking hash)) → OutcomeIs (ProverMarking hash) P z cause New nodes n o run → fuel_of run ≡ n
@@ -70,7 +52,7 @@ module _ (hash : Hash) (code : Code) where
     abbrev New : List ideal.Opened → Type 0
     New = AreSeen hash (program_in code).types new_nodes after.machine.mode.opened.items
 
-    pub pauses : AreFronts hash (program_in code).types after.machine.mode.fronts → (w : List ideal.Opened) → New w → WillRun (ProverMarking hash) P (function_at P f).result new_nodes after.machine.state w (ideal.ideal P f vs k)
+    pub pauses : AreFronts hash (program_in code).types after.machine.mode.digesting.fronts → (w : List ideal.Opened) → New w → WillRun (ProverMarking hash) P (function_at P f).result new_nodes after.machine.state w (ideal.ideal P f vs k)
         → Spent units before.machine.state.fuel after.machine.state → OpensFew (length after.machine.mode.opened.items) P after.machine.state
         → TurnEnds hash code new_nodes after f vs k (made + units) None
     pauses knows w seen will spent few =

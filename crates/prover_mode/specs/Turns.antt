@@ -34,7 +34,7 @@ module _ (hash : Hash) (code : Code) where
     pub runs : WillRun (ProverMarking hash) (program_of code) (function_at (program_of code) f).result nodes proving.machine.state seen (ideal.ideal (program_of code) f vs k)
     pub calls : k ≡ proving.machine.state.fuel + made
     pub due : proving.machine.state.entered ≡ false
-    pub knows : AreFronts hash (program_in code).types proving.machine.mode.fronts
+    pub knows : AreFronts hash (program_in code).types proving.machine.mode.digesting.fronts
     pub few : OpensFew (length proving.machine.mode.opened.items) (program_of code) proving.machine.state
 
   -- Among these nodes the call has run to its end: what it has opened is what its ideal run opens.

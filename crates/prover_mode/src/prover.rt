@@ -5,37 +5,31 @@ ghost use Rattle.value_store.specs.Markings.{ProverMarking};
 
 use crate::opened::Opened;
 use core_terms::{Fronts, Hash32, TyId, Types};
-use mode_vm::{Mode, Never, Stop};
-use shallow_codec::{SpareBuffer, spell_into};
+use mode_vm::{DigestingMode, Mode, Never, Stop};
 use std::alloc::Global;
-use std::marker::PhantomData;
-use value_store::{Held, Nodes, Ref, inner_of};
+use value_store::{Nodes, Ref, inner_of};
 
 /// How many openings there is room for at first, where there is memory: else it is asked for as values are opened.
 const FIRST_OPENED: usize = 16;
 
-/// The prover: `auth` holds a value with the digest of its projection, `unauth` gives the value and notes what is opened.
+/// The prover: the digesting mode, which notes what is opened.
 #[derive(Drop)]
 pub struct Prover<H> {
-    fronts: Fronts,
-    spare: SpareBuffer,
+    digesting: DigestingMode<H>,
     opened: Vec<Opened>,
-    hash: PhantomData<H>,
 }
 
 impl<H: Hash32> Prover<H> {
     /// A prover that has opened nothing, and digests behind these fronts.
     pub fn new(alloc: Global, fronts: Fronts) -> Self
         ensures opened { result.opened.items ≡ [] }
-        ensures fronts { result.fronts ≡ fronts }
+        ensures fronts { result.digesting.fronts ≡ fronts }
     {
         let mut opened = Vec::new(alloc);
         let _ = opened.reserve(FIRST_OPENED);
         Prover {
-            fronts,
-            spare: SpareBuffer::new(alloc),
+            digesting: DigestingMode::new(alloc, fronts),
             opened,
-            hash: PhantomData,
         }
     }
 
@@ -43,14 +37,8 @@ impl<H: Hash32> Prover<H> {
     pub fn into_opened(self) -> Vec<Opened>
         ensures { result ≡ self.opened }
     {
-        let Prover {
-            fronts,
-            spare,
-            opened,
-            hash: _,
-        } = self;
-        drop(fronts);
-        drop(spare);
+        let Prover { digesting, opened } = self;
+        drop(digesting);
         opened
     }
 }
@@ -68,14 +56,6 @@ impl<H: Hash32> Mode for Prover<H> {
 
     ghost cause = { λ f. None };
 
-    ghost faults = { λ world. 0 };
-
-    ghost Rose = { λ old new. ⊥ };
-
-    ghost Asks = { ⊥ };
-
-    ghost Answer = { Unit {0} };
-
     ghost May = { λ v a w. ⊥ };
 
     ghost Last = { λ v a f w. ⊥ };
@@ -84,13 +64,9 @@ impl<H: Hash32> Mode for Prover<H> {
 
     ghost opened = { λ mode. length mode.opened.items };
 
-    ghost Knows = { λ t mode nodes. AreFronts H.hash t mode.fronts };
-
-    ghost Rest = { Unit {0} };
+    ghost Knows = { λ t mode nodes. AreFronts H.hash t mode.digesting.fronts };
 
     ghost rest = { λ world. tt };
-
-    ghost Moves = { λ a v b w. Unit {0} };
 
     ghost moves_not = { λ a v. tt };
 
@@ -107,11 +83,7 @@ impl<H: Hash32> Mode for Prover<H> {
         ty: TyId,
         v: Ref,
     ) -> Result<Ref, Stop<Never>> {
-        let mut spelling = self.spare.take();
-        spell_into(types, store, v, ty, &mut spelling)?;
-        let digest = H::of_pair(self.fronts.front(ty), &spelling);
-        self.spare.keep(spelling);
-        Ok(store.put_auth(Held::Both(digest, v))?)
+        self.digesting.auth(types, store, ty, v)
     }
 
     fn unauth<N: Nodes>(

@@ -31,7 +31,7 @@ pub struct ProverRun {
 }
 
 /// Calls a function as a prover, on arguments that stand among the prover's nodes, with so much fuel, 10^12 units at most: its outcome,
-/// whose value stands among the nodes then, and all that the call opened.
+/// whose value stands among the nodes then, and all that the call opened. The store has the limit of the program's format.
 ///
 /// # Errors
 ///

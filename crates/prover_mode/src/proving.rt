@@ -40,7 +40,7 @@ pub struct Proved {
 
 /// Proves a call of a query or an update with this much fuel (at most 10^12), on a state and an argument that stand among the prover's
 /// nodes, with a ring that holds the last of the new pieces that came before. It gives the ring back, which holds the last of them and
-/// of the new pieces of this proof.
+/// of the new pieces of this proof. The store has the limit of the program's format.
 ///
 /// The frames have no header. A run that ends without a value is proved too. What a verifier makes of honest frames is said by the laws
 /// of `ideal_meaning`. Where memory is wanting the ring is dropped.

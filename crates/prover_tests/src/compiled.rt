@@ -1,7 +1,8 @@
 // A compiled program, beside the written one with the same query: no machine is stuck on its code, whatever is offered.
 use crate::stage::{
-    Call, End, audited, code_of_text, file, proved, source, verdict, verdict_of_bytes,
+    Call, DIGEST, End, audited, file, is_same_outcome, proved, source, verdict, verdict_of_bytes,
 };
+use call_stage::calls::code_of;
 use code_gen::Code;
 use collision_audit::Audited;
 use core_terms::{Outcome, Spelling};
@@ -34,7 +35,7 @@ impl Both {
     fn new(alloc: Global) -> Result<Self, AllocError> {
         let program = Box::into_inner(sum_program(alloc)?);
         let compiled = Box::new(alloc, Code::generate(program, alloc)?)?;
-        let written = code_of_text(alloc, WRITTEN)?;
+        let written = code_of(alloc, WRITTEN, DIGEST)?;
         Ok(Both { compiled, written })
     }
 }
@@ -96,15 +97,6 @@ fn a_compiled_call_is_proved(rt: HostRuntime) -> Result<(), Fail> {
         }
     }
     Ok(())
-}
-
-/// Whether two outcomes are one. No call of the tests below traps.
-fn is_same_outcome(one: &Outcome<Spelling>, other: &Outcome<Spelling>) -> bool {
-    match (one, other) {
-        (Outcome::Done(value), Outcome::Done(told)) => value.as_bytes() == told.as_bytes(),
-        (Outcome::Out, Outcome::Out) => true,
-        _ => false,
-    }
 }
 
 /// Whether two verdicts are one, and neither is want of memory or of a source.

@@ -1,10 +1,13 @@
 // Objects with bytes changed at random: however the calls of those that are accepted end, what is proved is accepted and agreed with.
-use crate::stage::{Call, audited, code_of_text, file, proved, source, takes_call, verdict};
+use crate::stage::{
+    Call, DIGEST, audited, file, is_same_outcome, proved, source, takes_call, verdict,
+};
 use ads_library::Gen;
+use call_stage::calls::code_of;
 use code_check::{ObjectFault, accept};
 use code_gen::Code;
 use collision_audit::Audited;
-use core_terms::{Digest, Format, Outcome, Spelling, Trap};
+use core_terms::{Digest, Format, Outcome, Spelling};
 use digest_layer::Sha;
 use object_writer::write_object;
 use std::alloc::{AllocError, Global};
@@ -39,9 +42,6 @@ const TRIES: u32 = 100_000;
 /// How many accepted objects are to be run at least.
 const RUNS: u32 = 10_000;
 
-/// The longest text that is read.
-const MAX_TEXT: usize = 262_144;
-
 /// The longest object that is judged.
 const MAX_OBJECT: usize = 4_194_304;
 
@@ -50,10 +50,7 @@ const RING: u16 = 4;
 
 /// The object of the program with this text.
 fn object_of(alloc: Global, text: &[u8]) -> Result<Vec<u8>, AllocError> {
-    if text.len() > MAX_TEXT {
-        return Err(AllocError);
-    }
-    let code = code_of_text(alloc, text)?;
+    let code = code_of(alloc, text, DIGEST)?;
     if code.program().code().is_some() || code.program().format() != Format::First {
         return Err(AllocError);
     }
@@ -180,27 +177,6 @@ impl Tally {
     }
 }
 
-fn is_same_trap(one: Trap, other: Trap) -> bool {
-    match (one, other) {
-        (Trap::Overflow, Trap::Overflow) => true,
-        (Trap::DivZero, Trap::DivZero) => true,
-        (Trap::TooBig, Trap::TooBig) => true,
-        (Trap::TooDeep, Trap::TooDeep) => true,
-        (Trap::Index, Trap::Index) => true,
-        _ => false,
-    }
-}
-
-/// Whether two outcomes are one.
-fn is_same(one: &Outcome<Spelling>, other: &Outcome<Spelling>) -> bool {
-    match (one, other) {
-        (Outcome::Done(value), Outcome::Done(told)) => value.as_bytes() == told.as_bytes(),
-        (Outcome::Trapped(trap), Outcome::Trapped(told)) => is_same_trap(*trap, *told),
-        (Outcome::Out, Outcome::Out) => true,
-        _ => false,
-    }
-}
-
 /// Whether a proof is accepted whole, with this outcome.
 fn is_accepted(
     alloc: Global,
@@ -211,7 +187,7 @@ fn is_accepted(
 ) -> Result<bool, AllocError> {
     let mut judged = source(alloc, proof, 4096)?;
     match &verdict::<Sha>(alloc, code, call, &mut judged)? {
-        Ok(told) => Ok(is_same(told, outcome) && judged.left() == 0),
+        Ok(told) => Ok(is_same_outcome(told, outcome) && judged.left() == 0),
         Err(_) => Ok(false),
     }
 }
@@ -227,7 +203,7 @@ fn is_agreed(
 ) -> Result<bool, AllocError> {
     let mut compared = source(alloc, proof, 4096)?;
     match &audited::<Sha>(alloc, code, store, call, &mut compared)? {
-        Ok(Audited::Agrees(told)) => Ok(is_same(told, outcome)),
+        Ok(Audited::Agrees(told)) => Ok(is_same_outcome(told, outcome)),
         _ => Ok(false),
     }
 }

@@ -1,5 +1,5 @@
 // The program of the tests, and its calls: proved, verified and audited.
-ghost use Rattle.std.specs.Prelude.{◌≡◌, ◌<◌, ◌≤◌, ◌∷◌, [], length, IfOk, IfSome, IsTrue, OnOk};
+ghost use Rattle.std.specs.Prelude.{◌≡◌, ◌<◌, ◌∷◌, [], length, IfOk, IsTrue, OnOk};
 ghost use Rattle.core_terms.specs.Formats.{Hash};
 ghost use Rattle.core_terms.specs.Programs.{meaning};
 ghost use Rattle.core_terms.specs.Terms.{function_at};
@@ -10,19 +10,17 @@ ghost use Rattle.value_store.specs.Stores.{nodes_in, store_lent};
 ghost use Rattle.mode_vm.specs.Meanings.{program_of};
 ghost use Rattle.mode_vm.specs.StateCalls.{IsCalledOn, TakesState};
 
-use auth_syntax::parser::parse;
-use auth_types::check::check;
+use call_stage::calls::{code_of, reading};
 use code_gen::Code;
 use collision_audit::{AuditFault, Audited, audit};
-use core_terms::{
-    Digest, FunctionId, Hash32, Outcome, Program, RoleId, RoleKind, Spelling, Trap, TyForm,
-};
+use core_terms::{Digest, FunctionId, Hash32, Outcome, Program, Spelling, Trap, TyForm};
 use digest_layer::Sha;
 use lam_outside::{Bytes, MemLink};
 use proof_stream::put_header;
 use prover_mode::{Proved, prove};
 use reuse_buffer::Ring;
 use std::alloc::{AllocError, Global};
+use term_stage::one_int::trap_word;
 use value_store::{Nodes, Ref, Store};
 use verifier_mode::{Verdict, verify, verify_on};
 
@@ -30,6 +28,9 @@ use verifier_mode::{Verdict, verify, verify_on};
 /// `twice` opens a piece of 8 bytes, the state's, two times.
 const TEXT: &[u8] =
     b"state int; fun opened(n: int): int = fst(unauth(auth((n, \"piece\")))); fun sum(n: int, k: int, s: int): int = if le(n, 0) then s else sum(sub(n, 1), k, add(s, opened(rem(n, k)))); query again(k: int, m: int): int = sum(m, k, 0); query over(s: int, x: int): int = add(opened(s), opened(x)); update swap(s: int, x: int): (int, int) = (opened(x), opened(s)); query twice(s: int, x: int): int = add(unauth(auth(s)), unauth(auth(s)));";
+
+/// The digest of the texts of the tests, which no call reads.
+pub const DIGEST: Digest = Digest([7; 32]);
 
 /// A call on a state and an argument that are ints, with so much fuel.
 #[derive(Clone, Copy)]
@@ -60,6 +61,16 @@ impl End {
     }
 }
 
+/// Whether two outcomes are one.
+pub fn is_same_outcome(one: &Outcome<Spelling>, other: &Outcome<Spelling>) -> bool {
+    match (one, other) {
+        (Outcome::Done(value), Outcome::Done(told)) => value.as_bytes() == told.as_bytes(),
+        (Outcome::Trapped(trap), Outcome::Trapped(told)) => trap_word(*trap) == trap_word(*told),
+        (Outcome::Out, Outcome::Out) => true,
+        _ => false,
+    }
+}
+
 /// A call that is put into a store.
 #[derive(Clone, Copy)]
 pub struct PutCall {
@@ -70,32 +81,7 @@ pub struct PutCall {
 
 /// The code of the program.
 pub fn code(alloc: Global) -> Result<Box<Code>, AllocError> {
-    code_of_text(alloc, TEXT)
-}
-
-/// The code of the program with this text.
-pub fn code_of_text(alloc: Global, text: &[u8]) -> Result<Box<Code>, AllocError>
-    requires { length text.now ≤ 262144 }
-{
-    let Ok(ast) = parse(alloc, text) else {
-        return Err(AllocError);
-    };
-    let Ok(program) = check(alloc, ast, Digest([7; 32])) else {
-        return Err(AllocError);
-    };
-    Ok(Box::new(alloc, Code::generate(program, alloc)?)?)
-}
-
-/// The function of a role that reads the state.
-fn reading(program: &Program, name: &str) -> Option<FunctionId>
-    ensures { IfSome result (λ f. (f.0 < length (meaning program.now).functions) × TakesState (meaning program.now) f.0) }
-{
-    let RoleId(number) = program.role(name)?;
-    let role = program.roles().get(number)?;
-    match role.kind {
-        RoleKind::Init => None,
-        RoleKind::Query | RoleKind::Update => Some(role.function),
-    }
+    code_of(alloc, TEXT, DIGEST)
 }
 
 /// Whether the state is an int, and the function takes two ints.

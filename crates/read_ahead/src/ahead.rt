@@ -1,5 +1,5 @@
 // Bytes that are read ahead of those that are asked for.
-ghost use Rattle.std.specs.Prelude.{◌≡◌, ◌≤◌, ◌<◌, ◌-◌, ◌++◌, [], min, length, take, OnOk};
+ghost use Rattle.std.specs.Prelude.{◌≡◌, ◌≤◌, ◌<◌, ◌-◌, ◌++◌, [], min, length, take, OnErr, OnOk};
 ghost use Rattle.std.specs.Io.{ReadsAtMost};
 ghost use Rattle.std.specs.Io.KnownBytes.{IsAtEnd, Keeps, ReadConsumes, prepend_known};
 
@@ -55,6 +55,7 @@ impl ReadAhead {
     /// An `Err` is the source's, which is asked where no byte is left.
     pub fn read<R: Read>(&mut self, source: &mut R, into: &mut [u8]) -> io::Result<usize>
         ensures bound { ReadsAtMost result into.new }
+        ensures fault { OnErr result (held self.old ≡ []) }
         ensures bytes { ReadConsumes (prepend_known (held self.old) (R.remaining source.old)) (prepend_known (held self.new) (R.remaining source.new)) result into.new }
     {
         if self.begin < self.end {

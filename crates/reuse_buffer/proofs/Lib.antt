@@ -1,4 +1,4 @@
--- Places serves place_of and get; Turning first_of and place_at; Linking push, clear, with_size and place_of.
+-- `place_in` and `walked`, `push_in` and `push_unindexed`: where pieces stand, how the ring turns, and how those of a bucket are linked
 pub mod Places
 pub mod Turning
 pub mod Linking

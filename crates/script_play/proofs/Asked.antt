@@ -13,10 +13,10 @@ use Rattle.ask_core.specs.Replies.{step_taken}
 use Rattle.ask_core.specs.declared.told.AskFault.{AskFault}
 use Rattle.ask_core.specs.declared.told.AskFault.TheVariants.{BadState, BadArgument, OutOfTurn, Rejected, Stranger, WrongReply, Failed, Broken, Closed, NoMemory as NoAskMemory}
 use Rattle.script_play.specs.Plays.{Deed, Sends, Tells, Play, asked_play, asks, behind, goes_behind, if_goes, rests}
-use Rattle.script_play.specs.Playing.{AreComing, BreaksOff, PlaysAs, SendsRequest, World, done, world}
-use Rattle.script_play.specs.PlayingInCode.{ClientAnswers, IsAnswered, IsTelling, TellingIsTold, is_sending}
-use Rattle.script_play.specs.declared.halt.Halt.{Halt}
-use Rattle.script_play.specs.declared.halt.Halt.TheVariants.{Ended, LinkFault, WriteFault, NoMemory}
+use Rattle.script_play.specs.Playing.{AreComing, BreaksOff, PlaysAs, World, done, world}
+use Rattle.script_play.specs.PlayingInCode.{SendsRequest, ClientAnswers, IsAnswered, IsTelling, TellingIsTold, is_sending}
+use Rattle.script_play.specs.declared.play_stop.PlayStop.{PlayStop}
+use Rattle.script_play.specs.declared.play_stop.PlayStop.TheVariants.{Ended, LinkFault, WriteFault, NoMemory}
 use Rattle.script_play.specs.declared.telling.Telling.{Telling}
 use Rattle.lam_outside.proofs.Moved.{append_none}
 use Rattle.script_play.proofs.Steps.{told_plays}
@@ -42,7 +42,7 @@ module _ (P : Program) (names : ConstructorNames) where
   }
 
   -- a request wasn't sent whole
-  pub unsent_plays : (T : Type 0) (request : Request) (p : Play) (Is : meant.Client → Type 0) (left' : Option (List ℕ)) (sent sent' written last : Option (List ℕ)) (h : Halt)
+  pub unsent_plays : (T : Type 0) (request : Request) (p : Play) (Is : meant.Client → Type 0) (left' : Option (List ℕ)) (sent sent' written last : Option (List ℕ)) (h : PlayStop)
       → SendsRequest request sent sent' (Err h)
       → PlaysAs P names {T = T} Is left' (world sent written last) (world sent' written last) (behind (Sends request ∷ []) p) (Err h)
   unsent_plays T request p Is left' sent sent' written last LinkFault s = sent_part request p.deeds sent sent' written last s.0 s.2
@@ -50,7 +50,7 @@ module _ (P : Program) (names : ConstructorNames) where
   unsent_plays T request p Is left' sent sent' written last Ended s = absurd s
   unsent_plays T request p Is left' sent sent' written last WriteFault s = absurd s
 
-  pub plays_err : (T U : Type 0) (Is Is' : meant.Client → Type 0) (left' left'' : Option (List ℕ)) (w w' : World) (p : Play) (h : Halt)
+  pub plays_err : (T U : Type 0) (Is Is' : meant.Client → Type 0) (left' left'' : Option (List ℕ)) (w w' : World) (p : Play) (h : PlayStop)
       → PlaysAs P names {T = T} Is left' w w' p (Err h) → PlaysAs P names {T = U} Is' left'' w w' p (Err h)
   plays_err T U Is Is' left' left'' w w' p Ended k = k
   plays_err T U Is Is' left' left'' w w' p LinkFault k = k
@@ -81,15 +81,7 @@ asks_none fault answer c session ms more e = ap (λ a. asks a c session ms more)
     by NoAskMemory = refl
 
 module _ (P : Program) (names : ConstructorNames) (session : ℕ) (t : meant.Taken) (ms : Messages Reply) (left' : Option (List ℕ)) (sent sent' : Option (List ℕ)) where
-  pub asked_sent : {T : Type 0} (u : T) (written last : Option (List ℕ)) (request : Request) → t.answer ≡ meant.Sends request
-      → sent' ≡ append_known sent (request_bytes request) → AreComing left' ms
-      → PlaysAs P names (λ c. c ≡ t.client) left' (world sent written last) (world sent' written last) (asked_play t session ms rests) (Ok u)
-  asked_sent u written last request e is comes =
-      subst (λ q. PlaysAs P names (λ c. c ≡ t.client) left' (world sent written last) (world sent' written last) q (Ok u))
-      (sym (asks_one t.answer request t.client session ms rests e))
-      (refl, sent_world P names request sent sent' written last is, refl, comes)
-
-  pub asked_unsent : (T : Type 0) (written last : Option (List ℕ)) (request : Request) (h : Halt) → t.answer ≡ meant.Sends request → SendsRequest request sent sent' (Err h)
+  pub asked_unsent : (T : Type 0) (written last : Option (List ℕ)) (request : Request) (h : PlayStop) → t.answer ≡ meant.Sends request → SendsRequest request sent sent' (Err h)
       → PlaysAs P names {T = T} (λ c. c ≡ t.client) left' (world sent written last) (world sent' written last) (asked_play t session ms rests) (Err h)
   asked_unsent T written last request h e is =
       subst (λ q. PlaysAs P names {T = T} (λ c. c ≡ t.client) left' (world sent written last) (world sent' written last) q (Err h))
@@ -98,7 +90,7 @@ module _ (P : Program) (names : ConstructorNames) (session : ℕ) (t : meant.Tak
 
   pub asked_told : (written written' last last' : Option (List ℕ)) (fault : AskFault) (telling : Telling) → t.answer ≡ fault_told fault
       → IsTelling P names (Tells session no_role (fault_told fault)) (goes_behind (fault_told fault)) telling → AreComing left' ms
-      → (r : Result (Unit {0}) Halt) → TellingIsTold telling written written' last last' r
+      → (r : Result (Unit {0}) PlayStop) → TellingIsTold telling written written' last last' r
       → PlaysAs P names (λ c. c ≡ t.client) left' (world sent written last) (world sent written' last') (asked_play t session ms rests) r
   asked_told written written' last last' fault telling e tells comes r told =
       subst (λ q. PlaysAs P names (λ c. c ≡ t.client) left' (world sent written last) (world sent written' last') q r)

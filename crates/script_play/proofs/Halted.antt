@@ -24,8 +24,8 @@ use Rattle.script_play.specs.Playing.{World, done, world}
 use Rattle.script_play.specs.PlayingInCode.{IsTelling, TellingIsTold, take_one}
 use Rattle.script_play.specs.Plays.{Deed, Play, Stops, behind, goes_behind, hears, if_goes, rests, then_play, told_of}
 use Rattle.script_play.specs.Tellings.{IsStop, IsStopTold}
-use Rattle.script_play.specs.declared.halt.Halt.{Halt}
-use Rattle.script_play.specs.declared.halt.Halt.TheVariants.{LinkFault, WriteFault}
+use Rattle.script_play.specs.declared.play_stop.PlayStop.{PlayStop}
+use Rattle.script_play.specs.declared.play_stop.PlayStop.TheVariants.{LinkFault, WriteFault}
 use Rattle.script_play.specs.declared.telling.Telling.{Telling}
 use Rattle.script_play.proofs.LeastTaken.{last_of, no_last, whole_read}
 use Rattle.script_play.proofs.Steps.{no_deeds}
@@ -177,7 +177,7 @@ module _ (P : Program) (names : ConstructorNames) where
             };
           }
 
-      pub breaks_to : (Is' Is'' : meant.Client → Type 0) (left' : Option (List ℕ)) (w' : World) (halt : Halt) → PlaysTo P names {T = Unit {0}} Is' far.rest left' w w' p (Err halt)
+      pub breaks_to : (Is' Is'' : meant.Client → Type 0) (left' : Option (List ℕ)) (w' : World) (halt : PlayStop) → PlaysTo P names {T = Unit {0}} Is' far.rest left' w w' p (Err halt)
           → PlaysTo P names {T = Unit {0}} Is'' bytes left' w0 w' plays (Err halt)
       breaks_to Is' Is'' left' w' LinkFault h = halts_to left' w' h
       breaks_to Is' Is'' left' w' WriteFault h = fails_to left' w' h
@@ -213,7 +213,7 @@ module _ (P : Program) (names : ConstructorNames) where
           parted = ap (λ (p : Play). p.deeds) (e (messages reply_of before)) ∙ ap (λ l. ds ++ l) s.parted ∙ sym (append_assoc ds s.before (Stops s.stop ∷ s.behind));
         }
 
-    pub plays_to_behind : {T : Type 0} (r : Result T Halt) → PlaysTo P names Is bytes left' w1 w2 q r → PlaysTo P names Is bytes left' w w2 plays r
+    pub plays_to_behind : {T : Type 0} (r : Result T PlayStop) → PlaysTo P names Is bytes left' w1 w2 q r → PlaysTo P names Is bytes left' w w2 plays r
     plays_to_behind (Ok u) h = record {
       taken = h.taken;
       rest = h.rest;
@@ -321,7 +321,7 @@ module _ (hash : Hash) (P : Program) (names : ConstructorNames) (own : List ℕ)
   stop_taken LacksMemory stop is telling line made reads = absurd is
 
   -- none was
-  pub none_taken : (s : ReadStop) (result : Result Telling Halt) → IsStopTold s result → ReadsMessage reply_meant read_reply bytes left' (Err s)
+  pub none_taken : (s : ReadStop) (result : Result Telling PlayStop) → IsStopTold s result → ReadsMessage reply_meant read_reply bytes left' (Err s)
       → TakesNext hash P names own Is bytes left' c result
   none_taken s (Ok telling) told reads = (stop_taken s told.0 told.1 telling told.2 told.3 reads, λ goes. absurd (let clash : false ≡ true = sym told.4 ∙ goes in cc))
   none_taken s (Err LinkFault) told reads = short_of (subst (λ s. ReadsMessage reply_meant read_reply bytes left' (Err s)) told reads)
@@ -355,7 +355,7 @@ module _ (hash : Hash) (P : Program) (names : ConstructorNames) (own : List ℕ)
 
   -- what is told of it is played
   module _ (sent sent' written written' last last' : Option (List ℕ)) (same : sent' ≡ sent) where
-    pub reply_played : (telling : Telling) (result : Result (Unit {0}) Halt) → TakesNext hash P names own Is bytes left' c (Ok telling)
+    pub reply_played : (telling : Telling) (result : Result (Unit {0}) PlayStop) → TakesNext hash P names own Is bytes left' c (Ok telling)
         → TellingIsTold telling written written' last last' result
         → PlaysTo P names Is bytes left' (world sent written last) (world sent' written' last') (take_one hash P own c) result
     reply_played telling (Ok u) takes told =
@@ -421,7 +421,7 @@ module _ (hash : Hash) (P : Program) (names : ConstructorNames) (own : List ℕ)
           });
     }
 
-    pub cut_played : (halt : Halt) → TakesNext hash P names own Is bytes left' c (Err halt)
+    pub cut_played : (halt : PlayStop) → TakesNext hash P names own Is bytes left' c (Err halt)
         → PlaysTo P names {T = Unit {0}} Is bytes left' (world sent written last) (world sent' written last) (take_one hash P own c) (Err halt)
     cut_played LinkFault none = none_played none
     cut_played WriteFault none = absurd none

@@ -14,12 +14,12 @@ use Rattle.session_meaning.specs.Messages.{Go, Messages, Reply, Request, message
 use Rattle.session_meaning.specs.Waiting.{some_waits}
 use Rattle.script_play.specs.Halting.{HaltsAt}
 use Rattle.script_play.specs.HaltingInCode.{OnLinkFault, PlaysTo, TakesSoFar}
-use Rattle.script_play.specs.Playing.{FailsAtLine, PlaysAs, SendsRequest, World, done, world}
-use Rattle.script_play.specs.PlayingInCode.{is_sending}
+use Rattle.script_play.specs.Playing.{FailsAtLine, PlaysAs, World, done, world}
+use Rattle.script_play.specs.PlayingInCode.{SendsRequest, is_sending}
 use Rattle.script_play.specs.Plays.{Deed, Play, Sends, Tells, asked_play, asks, behind, goes_behind, if_goes, lets_run, most_rounds, rests, take_replies, then_play}
 use Rattle.script_play.specs.Prompt.{IsPromptOn}
-use Rattle.script_play.specs.declared.halt.Halt.{Halt}
-use Rattle.script_play.specs.declared.halt.Halt.TheVariants.{LinkFault, WriteFault}
+use Rattle.script_play.specs.declared.play_stop.PlayStop.{PlayStop}
+use Rattle.script_play.specs.declared.play_stop.PlayStop.TheVariants.{LinkFault, WriteFault}
 use Rattle.script_play.proofs.Awaited.{reads_behind}
 use Rattle.script_play.proofs.Halted.{halts_before, plays_to_behind}
 use Rattle.script_play.proofs.LeastTaken.{no_last}
@@ -94,7 +94,7 @@ module _ (P : Program) (names : ConstructorNames) where
     last = refl;
   }
 
-  pub request_halts : (T : Type 0) (answer : meant.Answer) (c : meant.Client) (session : ℕ) (ms : Messages Reply) (request : Request) (sent sent' written last : Option (List ℕ)) (halt : Halt)
+  pub request_halts : (T : Type 0) (answer : meant.Answer) (c : meant.Client) (session : ℕ) (ms : Messages Reply) (request : Request) (sent sent' written last : Option (List ℕ)) (halt : PlayStop)
       → answer ≡ meant.Sends request → SendsRequest request sent sent' (Err halt)
       → OnLinkFault {T = T} (Err halt) (HaltsAt P names (world sent written last) (world sent' written last) (asks answer c session ms rests).deeds)
   request_halts T answer c session ms request sent sent' written last LinkFault is s =
@@ -105,7 +105,7 @@ module _ (P : Program) (names : ConstructorNames) where
   -- A LINE
   module _ (t : meant.Taken) (session : ℕ) (bytes : List ℕ) (left' : Option (List ℕ)) (told : left' ≡ Some bytes) (Is : meant.Client → Type 0) where
     -- its request, or what is told in its place, and the replies behind it, are broken off
-    pub line_halts : (more : meant.Client → Messages Reply → Play) (w w1 : World) (halt : Halt)
+    pub line_halts : (more : meant.Client → Messages Reply → Play) (w w1 : World) (halt : PlayStop)
         → OnLinkFault {T = Bool} (Err halt) (HaltsAt P names w w1 (asked_play t session (messages reply_of []) rests).deeds)
         → PlaysAs P names {T = Bool} (λ c. c ≡ t.client) left' w w1 (asked_play t session (messages reply_of bytes) rests) (Err halt)
         → PlaysTo P names {T = Unit {0}} Is bytes left' w w1 (λ ms. asked_play t session ms more) (Err halt)
@@ -155,7 +155,7 @@ module _ (P : Program) (names : ConstructorNames) where
 
   -- its request was sent, and more is played behind it
   pub line_more : (t : meant.Taken) (session : ℕ) (ms : Messages Reply) (more : meant.Client → Messages Reply → Play) (w w1 w2 : World) → is_sending t.answer ≡ true
-      → w1 ≡ done P names w (asked_play t session ms rests).deeds → (Is : meant.Client → Type 0) (bytes : List ℕ) (left' : Option (List ℕ)) (r : Result (Unit {0}) Halt)
+      → w1 ≡ done P names w (asked_play t session ms rests).deeds → (Is : meant.Client → Type 0) (bytes : List ℕ) (left' : Option (List ℕ)) (r : Result (Unit {0}) PlayStop)
       → PlaysTo P names Is bytes left' w1 w2 (more t.client) r → PlaysTo P names Is bytes left' w w2 (λ ms. asked_play t session ms more) r
   line_more t session ms more w w1 w2 sends first Is bytes left' r plays =
       plays_to_behind P names w w1 w2 (asked_play t session ms rests).deeds first (λ ms. asked_play t session ms more) (more t.client)
@@ -174,7 +174,7 @@ module _ (P : Program) (names : ConstructorNames) where
     run_is : (ms : Messages Reply) → lets_run hash P own calls c ms ≡ behind (Sends (Go most_rounds) ∷ []) (take_replies hash P own some_waits c ms)
     run_is ms = ap (λ b. lets_run hash P own b c ms) some
 
-    pub run_halts : left' ≡ Some bytes → (halt : Halt) → SendsRequest (Go most_rounds) sent sent' (Err halt)
+    pub run_halts : left' ≡ Some bytes → (halt : PlayStop) → SendsRequest (Go most_rounds) sent sent' (Err halt)
         → PlaysTo P names {T = Unit {0}} Is bytes left' (world sent written last) (world sent' written last) (lets_run hash P own calls c) (Err halt)
     run_halts told LinkFault s = record {
       taken = [];
@@ -187,7 +187,7 @@ module _ (P : Program) (names : ConstructorNames) where
     run_halts told WriteFault s = absurd s
     run_halts told halt s = tt
 
-    pub run_more : world sent' written last ≡ done P names (world sent written last) (Sends (Go most_rounds) ∷ []) → (w2 : World) (r : Result (Unit {0}) Halt)
+    pub run_more : world sent' written last ≡ done P names (world sent written last) (Sends (Go most_rounds) ∷ []) → (w2 : World) (r : Result (Unit {0}) PlayStop)
         → PlaysTo P names Is bytes left' (world sent' written last) w2 (take_replies hash P own some_waits c) r
         → PlaysTo P names Is bytes left' (world sent written last) w2 (lets_run hash P own calls c) r
     run_more first w2 r plays =

@@ -29,7 +29,7 @@ use Rattle.script_play.specs.DeedLines.{answer_line}
 use Rattle.script_play.specs.Plays.{Stops, goes_behind, hears, told_of}
 use Rattle.script_play.specs.PlayingInCode.{IsTelling, take_one}
 use Rattle.script_play.specs.Tellings.{IsNext, IsStop, IsStopTold, OfAnswer, is_outcome, makes_state, state_if}
-use Rattle.script_play.specs.declared.halt.Halt.{Halt}
+use Rattle.script_play.specs.declared.play_stop.PlayStop.{PlayStop}
 use Rattle.script_play.specs.declared.telling.Telling.{Telling}
 use Rattle.script_play.proofs.Heard.{count_fewer, heard_calls, heard_makes}
 use Rattle.script_play.proofs.Told.{outcome_called}
@@ -134,7 +134,7 @@ module _ (hash : Hash) (P : Program) (names : ConstructorNames) (own : List ℕ)
   stops_so stop.LinkFault st e h = absurd e
   stops_so stop.NoMemory st e h = absurd e
 
-  pub next_stop : (s : ReadStop) (result : Result Telling Halt) → IsStopTold s result → ReadsMessage reply_meant read_reply bytes left' (Err s)
+  pub next_stop : (s : ReadStop) (result : Result Telling PlayStop) → IsStopTold s result → ReadsMessage reply_meant read_reply bytes left' (Err s)
       → IfOk result (IsNext hash P names own Is left' m ms)
   next_stop s (Err h) told reads = tt
   next_stop s (Ok telling) told reads = record {

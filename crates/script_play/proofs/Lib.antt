@@ -1,6 +1,6 @@
 -- plays one behind another: `take_one`, `take_replies`, `play_step`, `play`
 pub mod Worlds
--- and on the bytes that came, where the link or the sink broke one off: the clauses `takes`, `halts` and `prompt` of the same functions
+-- and on the bytes that came, where the link or the sink broke one off: the clauses `takes` and `prompt` of the same functions, and `halts` in `played`
 mod LeastTaken
 mod Awaited
 pub mod Halted

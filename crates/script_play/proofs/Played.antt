@@ -24,9 +24,9 @@ use Rattle.ask_core.specs.declared.told.AskFault.{AskFault}
 use Rattle.ask_script.specs.ScriptAnswers.{step_meant}
 use Rattle.ask_script.specs.declared.step.Step.{Step}
 use Rattle.script_play.specs.Plays.{Sends, Play, asked_play, asks, behind, lets_run, most_rounds, play, play_step, rests, take_replies, then_play}
-use Rattle.script_play.specs.Playing.{PlaysAs, SendsRequest, World, done, world}
-use Rattle.script_play.specs.PlayingInCode.{ClientAnswers, is_sending}
-use Rattle.script_play.specs.declared.halt.Halt.{Halt}
+use Rattle.script_play.specs.Playing.{PlaysAs, World, done, world}
+use Rattle.script_play.specs.PlayingInCode.{SendsRequest, ClientAnswers, is_sending}
+use Rattle.script_play.specs.declared.play_stop.PlayStop.{PlayStop}
 use Rattle.script_play.proofs.Asked.{asks_answers, plays_err, sent_world, unsent_plays}
 use Rattle.lam_outside.proofs.Moved.{append_none}
 use Rattle.script_play.proofs.Worlds.{plays_behind, plays_cut}
@@ -63,7 +63,7 @@ asks_alone answer c session ms more e = refl
 module _ (P : Program) (names : ConstructorNames) (t : meant.Taken) (session : ℕ) (ms : Messages Reply) (more : meant.Client → Messages Reply → Play) where
   -- what was sent, and what is played behind it
   pub more_plays : (w w1 w2 : World) → is_sending t.answer ≡ true → w1 ≡ done P names w (asked_play t session ms rests).deeds
-      → (Is : meant.Client → Type 0) (left' : Option (List ℕ)) (r : Result (Unit {0}) Halt)
+      → (Is : meant.Client → Type 0) (left' : Option (List ℕ)) (r : Result (Unit {0}) PlayStop)
       → PlaysAs P names Is left' w1 w2 (more t.client ms) r → PlaysAs P names Is left' w w2 (asked_play t session ms more) r
   more_plays w w1 w2 sends is Is left' r plays =
       subst (λ p. PlaysAs P names Is left' w w2 p r) (sym (asks_more t.answer t.client session ms more sends))
@@ -84,7 +84,7 @@ module _ (P : Program) (names : ConstructorNames) (t : meant.Taken) (session : �
   asked_stands u b w w1 Is left' stands plays = (plays.0, plays.1, subst Is (sym plays.2) stands, plays.3)
 
   -- the play of what is asked is broken off, or ends
-  pub asked_halts : (w w1 : World) (Is Is' : meant.Client → Type 0) (left' left'' : Option (List ℕ)) (h : Halt)
+  pub asked_halts : (w w1 : World) (Is Is' : meant.Client → Type 0) (left' left'' : Option (List ℕ)) (h : PlayStop)
       → PlaysAs P names {T = Bool} Is left' w w1 (asked_play t session ms rests) (Err h)
       → PlaysAs P names {T = Unit {0}} Is' left'' w w1 (asked_play t session ms more) (Err h)
   asked_halts w w1 Is Is' left' left'' h plays = by (is_sending t.answer) refl
@@ -107,7 +107,7 @@ module _ (hash : Hash) (P : Program) (names : ConstructorNames) (own : List ℕ)
 
   -- it is asked, and replies are taken
   pub run_plays : (sent sent' written last : Option (List ℕ)) → sent' ≡ append_known sent (request_bytes (Go most_rounds))
-      → (Is : meant.Client → Type 0) (left' : Option (List ℕ)) (w2 : World) (r : Result (Unit {0}) Halt)
+      → (Is : meant.Client → Type 0) (left' : Option (List ℕ)) (w2 : World) (r : Result (Unit {0}) PlayStop)
       → PlaysAs P names Is left' (world sent' written last) w2 (take_replies hash P own some_waits c ms) r
       → PlaysAs P names Is left' (world sent written last) w2 (lets_run hash P own calls c ms) r
   run_plays sent sent' written last is Is left' w2 r plays =
@@ -116,7 +116,7 @@ module _ (hash : Hash) (P : Program) (names : ConstructorNames) (own : List ℕ)
       (sent_world P names (Go most_rounds) sent sent' written last is) Is left' (take_replies hash P own some_waits c ms) r plays)
 
   -- what asks it wasn't sent whole
-  pub run_unsent : (Is : meant.Client → Type 0) (left' : Option (List ℕ)) (sent sent' written last : Option (List ℕ)) (h : Halt) → SendsRequest (Go most_rounds) sent sent' (Err h)
+  pub run_unsent : (Is : meant.Client → Type 0) (left' : Option (List ℕ)) (sent sent' written last : Option (List ℕ)) (h : PlayStop) → SendsRequest (Go most_rounds) sent sent' (Err h)
       → PlaysAs P names {T = Unit {0}} Is left' (world sent written last) (world sent' written last) (lets_run hash P own calls c ms) (Err h)
   run_unsent Is left' sent sent' written last h is =
       subst (λ p. PlaysAs P names {T = Unit {0}} Is left' (world sent written last) (world sent' written last) p (Err h)) (sym run_is)

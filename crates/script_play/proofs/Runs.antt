@@ -11,7 +11,8 @@ use Rattle.session_meaning.specs.Messages.{Go, Messages, NoMore, Then, Reply}
 use Rattle.session_meaning.proofs.FineServer.{all_more}
 use Rattle.session_meaning.specs.Waiting.{some_calls, some_waits}
 use Rattle.ask_script.specs.Scripts.{HasByteArgument, UserStep, Opens, Calls, Goes, Closes}
-use Rattle.script_play.specs.PlayRuns.{DeedsFollow, IsOfNone, PlaysTellTruth, begin_with, client_behind, deed_of, heard_by, line_deed, replies_heard}
+use Rattle.script_play.specs.PlayRuns.{DeedsFollow, IsOfNone, begin_with, client_behind, deed_of, heard_by, line_deed, replies_heard}
+use Rattle.script_play.specs.PlayLaws.{PlaysTellTruth}
 use Rattle.script_play.specs.Plays.{Deed, Sends, Stops, Play, asked_play, asks, behind, ends, goes_behind, hears, if_goes, if_waiting, lets_run, most_rounds, play, play_step, rests, take_replies, then_play, told_of}
 
 -- what holds of all, holds of those behind some

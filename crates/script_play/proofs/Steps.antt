@@ -14,8 +14,8 @@ use Rattle.script_play.specs.Plays.{Deed, Play, behind, if_goes, rests}
 use Rattle.script_play.specs.Playing.{AreComing, PlaysAs, World, done, world}
 use Rattle.script_play.specs.PlayingInCode.{IsCutShort, IsTelling, TellingIsTold, PlayCause, take_one}
 use Rattle.script_play.specs.Tellings.{IsNext}
-use Rattle.script_play.specs.declared.halt.Halt.{Halt}
-use Rattle.script_play.specs.declared.halt.Halt.TheVariants.{Ended, LinkFault, WriteFault, NoMemory}
+use Rattle.script_play.specs.declared.play_stop.PlayStop.{PlayStop}
+use Rattle.script_play.specs.declared.play_stop.PlayStop.TheVariants.{Ended, LinkFault, WriteFault, NoMemory}
 use Rattle.script_play.specs.declared.telling.Telling.{Telling}
 use Rattle.script_play.proofs.Worlds.{nothing_done, worlds_same}
 
@@ -25,7 +25,7 @@ no_deeds false c ms = refl
 
 module _ (P : Program) (names : ConstructorNames) where
   -- what is broken off before anything is done
-  pub cut_short : (Is : meant.Client → Type 0) (left' : Option (List ℕ)) (w : World) (p : Play) (h : Halt) → IsCutShort h
+  pub cut_short : (Is : meant.Client → Type 0) (left' : Option (List ℕ)) (w : World) (p : Play) (h : PlayStop) → IsCutShort h
       → PlaysAs P names {T = Unit {0}} Is left' w w p (Err h)
   cut_short Is left' w p LinkFault e = nothing_done P names w p.deeds
   cut_short Is left' w p NoMemory e = nothing_done P names w p.deeds
@@ -44,7 +44,7 @@ module _ (P : Program) (names : ConstructorNames) where
         (f ∙ ap (λ (m : Option (List ℕ)). option_or m last) tells.made)
 
     pub told_plays : (Is : meant.Client → Type 0) (left' : Option (List ℕ)) (c : meant.Client) (ms : Messages Reply)
-        → (goes ≡ true → Is c) → (goes ≡ true → AreComing left' ms) → (r : Result (Unit {0}) Halt) → TellingIsTold telling written written' last last' r
+        → (goes ≡ true → Is c) → (goes ≡ true → AreComing left' ms) → (r : Result (Unit {0}) PlayStop) → TellingIsTold telling written written' last last' r
         → PlaysAs P names Is left' (world sent written last) (world sent written' last') (behind (deed ∷ []) (if_goes goes c ms rests)) r
     told_plays Is left' c ms stands comes (Ok u) h =
         let true_is : goes ≡ true = sym tells.goes_on ∙ h.0 in
@@ -71,7 +71,7 @@ module _ (P : Program) (names : ConstructorNames) where
   -- one reply
   pub next_plays : (hash : Hash) (own : List ℕ) (Is : meant.Client → Type 0) (left' : Option (List ℕ)) (c : meant.Client) (ms : Messages Reply) (telling : Telling)
       → IsNext hash P names own Is left' c ms telling → (sent sent' written written' last last' : Option (List ℕ)) → sent' ≡ sent
-      → (r : Result (Unit {0}) Halt) → TellingIsTold telling written written' last last' r
+      → (r : Result (Unit {0}) PlayStop) → TellingIsTold telling written written' last last' r
       → PlaysAs P names Is left' (world sent written last) (world sent' written' last') (take_one hash P own c ms) r
   next_plays hash own Is left' c ms telling next sent sent' written written' last last' same r h =
       subst (λ s. PlaysAs P names Is left' (world sent written last) (world s written' last') (take_one hash P own c ms) r) (sym same)
@@ -79,7 +79,7 @@ module _ (P : Program) (names : ConstructorNames) where
       (told_plays next.deed next.goes telling next.silent next.tells sent written written' last last' Is left' next.later next.coming next.stands next.comes r h))
 
   -- the link moved nothing
-  pub cut_so : (Is : meant.Client → Type 0) (left' : Option (List ℕ)) (sent sent' written last : Option (List ℕ)) (p : Play) (h : Halt) → sent' ≡ sent → IsCutShort h
+  pub cut_so : (Is : meant.Client → Type 0) (left' : Option (List ℕ)) (sent sent' written last : Option (List ℕ)) (p : Play) (h : PlayStop) → sent' ≡ sent → IsCutShort h
       → PlaysAs P names {T = Unit {0}} Is left' (world sent written last) (world sent' written last) p (Err h)
   cut_so Is left' sent sent' written last p h same e =
       subst (λ s. PlaysAs P names {T = Unit {0}} Is left' (world sent written last) (world s written last) p (Err h)) (sym same) (cut_short Is left' (world sent written last) p h e)
@@ -99,10 +99,10 @@ ok_map4 (Ok x) q1 q2 q3 q4 f = f x q1 q2 q3 q4
 ok_map4 (Err e) q1 q2 q3 q4 f = tt
 
 -- THE COUNTS OF FAULTS
-pub cause_after : {T : Type 0} (old new sink sink' : ℕ) (r : Result T Halt) → new ≡ old → ((link : ℕ) → PlayCause link link sink sink' r) → PlayCause old new sink sink' r
+pub cause_after : {T : Type 0} (old new sink sink' : ℕ) (r : Result T PlayStop) → new ≡ old → ((link : ℕ) → PlayCause link link sink sink' r) → PlayCause old new sink sink' r
 cause_after old new sink sink' r same cause = subst (λ l. PlayCause l new sink sink' r) same (cause new)
 
-pub cause_err : (T U : Type 0) (link link' sink sink' : ℕ) (h : Halt) → PlayCause {T = T} link link' sink sink' (Err h) → PlayCause {T = U} link link' sink sink' (Err h)
+pub cause_err : (T U : Type 0) (link link' sink sink' : ℕ) (h : PlayStop) → PlayCause {T = T} link link' sink sink' (Err h) → PlayCause {T = U} link link' sink sink' (Err h)
 cause_err T U link link' sink sink' Ended k = k
 cause_err T U link link' sink sink' LinkFault k = k
 cause_err T U link link' sink sink' NoMemory k = k

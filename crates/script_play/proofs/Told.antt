@@ -1,19 +1,15 @@
 -- What is told of an answer: for `hear`, `telling_of` and the lines.
-use Rattle.std.proofs.Common.{◌≡◌, ℕ, ◌<◌, ◌^◌, true, false, ◌&&◌, List, Option, Some, None, Result, Ok, Err, IfSome, IsSome, length, refl, sym, ap, ◌∙◌, subst, arith}
+use Rattle.std.proofs.Common.{◌≡◌, ℕ, ◌<◌, ◌^◌, true, List, Option, Some, None, Result, Ok, Err, IfSome, IsSome, length, refl, sym, ap, ◌∙◌, subst, arith}
 use Rattle.core_terms.proofs.LawProofs.{size_is_length}
 use Rattle.core_terms.specs.Formats.{IsFormat}
-use Rattle.core_terms.specs.RoleViews.{role_kind_of}
-use Rattle.core_terms.specs.Roles.{Role}
 use Rattle.core_terms.specs.Spelling.{spelling}
-use Rattle.core_terms.specs.Terms.{Kind, Update, Program}
+use Rattle.core_terms.specs.Terms.{Program}
 use Rattle.core_terms.specs.TypeTables.{type_at}
 use Rattle.core_terms.specs.Types.{Ty}
 use Rattle.core_terms.specs.Values.{IsShallow, Value}
 use Rattle.core_terms.specs.declared.outcome.Outcome.{Outcome}
 use Rattle.core_terms.specs.declared.outcome.Outcome.TheVariants as told
 use Rattle.core_terms.specs.declared.byte_string.ByteString.{ByteString as Spelling}
-use Rattle.core_terms.specs.declared.roles.RoleKind.{RoleKind}
-use Rattle.core_terms.specs.declared.roles.RoleKind.TheVariants as role_kind
 use Rattle.ideal_meaning.specs.Ideal as ideal
 use Rattle.ideal_meaning.specs.SpelledOutcomes.{SpellsOutcome}
 use Rattle.printed_lines.specs.OutcomeLines.{named_done_line}
@@ -23,18 +19,15 @@ use Rattle.session_meaning.specs.Client as meant
 use Rattle.session_meaning.specs.Messages.{BadMessage, TooLong}
 use Rattle.wire_form.specs.declared.message.ReadStop.{ReadStop}
 use Rattle.wire_form.specs.declared.message.ReadStop.TheVariants as stop
-use Rattle.ask_core.specs.Answers.{fault_told}
 use Rattle.ask_core.specs.Replies.{IsAnswer, called_type}
 use Rattle.ask_core.specs.Sessions.{IsCalledRole}
 use Rattle.session_meaning.specs.Waiting.{called_in, is_calling}
 use Rattle.ask_core.specs.declared.seen.CalledRole.{CalledRole}
 use Rattle.ask_core.specs.declared.told.AskFault.{AskFault}
-use Rattle.ask_core.specs.declared.told.AskFault.TheVariants as ask_fault
 use Rattle.ask_core.specs.declared.told.Told.{Told}
 use Rattle.ask_core.specs.declared.told.Told.TheVariants as tells
 use Rattle.script_play.specs.DeedLines.{answer_line, outcome_line}
-use Rattle.script_play.specs.Plays.{goes_behind}
-use Rattle.script_play.specs.Tellings.{IsStop, called_updates, is_outcome, is_update, makes, makes_state, told_done, told_goes}
+use Rattle.script_play.specs.Tellings.{IsStop, is_outcome}
 
 -- the line of a value, by its bytes as they are lent
 pub done_line : (P : Program) → IsFormat P.format → (names : ConstructorNames) (t : Ty) (bytes lent line : List ℕ) → lent ≡ bytes
@@ -57,68 +50,6 @@ module _ (P : Program) where
   called_result (Some (meant.Calling k a)) = refl
   called_result (Some (meant.FailedBy cause)) = refl
   called_result (Some (meant.BrokenBy kind)) = refl
-
-  pub goes_told : (t : Ty) (answer : meant.Answer) (r : Result Told AskFault) → IsAnswer P t answer r → told_goes r ≡ goes_behind answer
-  goes_told t answer (Ok tells.Welcome) h = ap goes_behind (sym h)
-  goes_told t answer (Ok (tells.Outcome o)) h = ap goes_behind (sym h.1)
-  goes_told t answer (Ok (tells.Stale state)) h = ap goes_behind (sym h)
-  goes_told t answer (Ok (tells.Refused cause)) h = ap goes_behind (sym h)
-  goes_told t answer (Ok tells.Ended) h = ap goes_behind (sym h)
-  goes_told t answer (Err fault) h = ap goes_behind (sym h)
-
-  fault_makes : (role : Role) (fault : AskFault) → makes_state role (fault_told fault) ≡ false
-  fault_makes role (ask_fault.BadState offset) = refl
-  fault_makes role (ask_fault.BadArgument offset) = refl
-  fault_makes role ask_fault.OutOfTurn = refl
-  fault_makes role (ask_fault.Rejected session cause) = refl
-  fault_makes role (ask_fault.Stranger session) = refl
-  fault_makes role (ask_fault.WrongReply kind) = refl
-  fault_makes role (ask_fault.Failed cause) = refl
-  fault_makes role (ask_fault.Broken kind) = refl
-  fault_makes role (ask_fault.Closed cause) = refl
-  fault_makes role ask_fault.NoMemory = refl
-
-  update_makes : (kind : RoleKind) (v : Value) → is_update kind ≡ makes (role_kind_of kind) (ideal.Done v)
-  update_makes role_kind.Update v = refl
-  update_makes role_kind.Query v = refl
-  update_makes role_kind.Init v = refl
-
-  uncalled_makes : (found : Option meant.Standing) (v : Value) → is_calling found ≡ false → false ≡ makes (called_in P found).kind (ideal.Done v)
-  uncalled_makes None v e = refl
-  uncalled_makes (Some (meant.Greeting k)) v e = refl
-  uncalled_makes (Some (meant.Idle k)) v e = refl
-  uncalled_makes (Some (meant.Leaving k)) v e = refl
-  uncalled_makes (Some (meant.Calling k a)) v e = absurd (cc)
-  uncalled_makes (Some (meant.FailedBy cause)) v e = refl
-  uncalled_makes (Some (meant.BrokenBy kind)) v e = refl
-
-  called_makes : (types : List Ty) (found : Option meant.Standing) (called : Option CalledRole) (v : Value) → IsCalledRole types P found called
-      → called_updates called ≡ makes (called_in P found).kind (ideal.Done v)
-  called_makes types found (Some role) v h = update_makes role.kind v ∙ ap (λ kind. makes kind (ideal.Done v)) h.0
-  called_makes types found None v h = uncalled_makes found v h
-
-  trap_makes_none : (kind : Kind) (o : ideal.Outcome) → ((v : Value) → o ≡ ideal.Done v → ⊥) → makes kind o ≡ false
-  trap_makes_none kind (ideal.Done v) other = absurd (other v refl)
-  trap_makes_none Update (ideal.Trapped trap) other = refl
-  trap_makes_none Update ideal.Out other = refl
-  trap_makes_none kind o other = refl
-
-  -- an outcome makes a state
-  outcome_makes : (types : List Ty) (found : Option meant.Standing) (called : Option CalledRole) (t : Ty) (o : ideal.Outcome) (outcome : Outcome Spelling)
-      → IsCalledRole types P found called → SpellsOutcome P t o outcome → (told_done (Ok (tells.Outcome outcome)) && called_updates called) ≡ makes (called_in P found).kind o
-  outcome_makes types found called t o (told.Done bytes) h s = called_makes types found called s.0 h ∙ ap (makes (called_in P found).kind) (sym s.1)
-  outcome_makes types found called t o (told.Trapped trap) h s = sym (ap (makes (called_in P found).kind) s ∙ trap_makes_none (called_in P found).kind _ (λ v e. absurd (cc)))
-  outcome_makes types found called t o told.Out h s = sym (ap (makes (called_in P found).kind) s ∙ trap_makes_none (called_in P found).kind _ (λ v e. absurd (cc)))
-
-  pub made_told : (types : List Ty) (found : Option meant.Standing) (called : Option CalledRole) (t : Ty) (answer : meant.Answer) (r : Result Told AskFault)
-      → IsCalledRole types P found called → IsAnswer P t answer r → (told_done r && called_updates called) ≡ makes_state (called_in P found) answer
-  made_told types found called t answer (Ok tells.Welcome) h a = ap (makes_state (called_in P found)) (sym a)
-  made_told types found called t answer (Ok (tells.Outcome outcome)) h a =
-      outcome_makes types found called t a.0 outcome h a.2 ∙ ap (makes_state (called_in P found)) (sym a.1)
-  made_told types found called t answer (Ok (tells.Stale state)) h a = ap (makes_state (called_in P found)) (sym a)
-  made_told types found called t answer (Ok (tells.Refused cause)) h a = ap (makes_state (called_in P found)) (sym a)
-  made_told types found called t answer (Ok tells.Ended) h a = ap (makes_state (called_in P found)) (sym a)
-  made_told types found called t answer (Err fault) h a = sym (ap (makes_state (called_in P found)) a ∙ fault_makes (called_in P found) fault)
 
   -- an outcome is told of a call alone
   pub outcome_called : (types : List Ty) (found : Option meant.Standing) (called : Option CalledRole) (t : Ty) (answer : meant.Answer) (r : Result Told AskFault)

@@ -14,8 +14,8 @@ use Rattle.script_play.specs.DeedLines.{bytes_sent, deed_bytes, deed_line, lines
 use Rattle.script_play.specs.Plays.{Deed, Stops, Play, behind, deed_made, ends, goes_behind, hears, if_goes, if_waiting, made_last, rests, take_replies, then_play, told_of}
 use Rattle.script_play.specs.Playing.{AreComing, BreaksOff, FailsAtLine, PlaysAs, World, done, first_sent, world}
 use Rattle.script_play.specs.PlayingInCode.{take_one}
-use Rattle.script_play.specs.declared.halt.Halt.{Halt}
-use Rattle.script_play.specs.declared.halt.Halt.TheVariants.{Ended, LinkFault, WriteFault, NoMemory}
+use Rattle.script_play.specs.declared.play_stop.PlayStop.{PlayStop}
+use Rattle.script_play.specs.declared.play_stop.PlayStop.TheVariants.{Ended, LinkFault, WriteFault, NoMemory}
 
 pub worlds_same : (s s' w w' l l' : Option (List ℕ)) → s ≡ s' → w ≡ w' → l ≡ l' → world s w l ≡ world s' w' l'
 worlds_same s s' w w' l l' e f g = ap (λ x. world x w l) e ∙ ap (λ x. world s' x l) f ∙ ap (λ x. world s' w' x) g
@@ -68,7 +68,7 @@ module _ (P : Program) (names : ConstructorNames) where
     }
 
     module _ (Is : meant.Client → Type 0) (left' : Option (List ℕ)) where
-      pub plays_behind : (p : Play) (r : Result (Unit {0}) Halt) → PlaysAs P names Is left' w1 w2 p r → PlaysAs P names Is left' w w2 (behind ds p) r
+      pub plays_behind : (p : Play) (r : Result (Unit {0}) PlayStop) → PlaysAs P names Is left' w1 w2 p r → PlaysAs P names Is left' w w2 (behind ds p) r
       plays_behind p (Ok u) h = (h.0, h.1 ∙ front_is p.deeds, h.2, h.3)
       plays_behind p (Err Ended) h = (h.0, h.1 ∙ front_is p.deeds)
       plays_behind p (Err LinkFault) h = breaks_behind p.deeds h
@@ -126,7 +126,7 @@ module _ (P : Program) (names : ConstructorNames) where
     }
 
     -- a play that is broken off breaks off all that would be played
-    pub plays_cut : (Is Is' : meant.Client → Type 0) (left' left'' : Option (List ℕ)) (p : Play) (more : meant.Client → Messages Reply → Play) (h : Halt)
+    pub plays_cut : (Is Is' : meant.Client → Type 0) (left' left'' : Option (List ℕ)) (p : Play) (more : meant.Client → Messages Reply → Play) (h : PlayStop)
         → PlaysAs P names {T = Unit {0}} Is left' w w2 p (Err h) → PlaysAs P names {T = Unit {0}} Is' left'' w w2 (then_play p more) (Err h)
     plays_cut Is Is' left' left'' p more Ended h =
         subst (λ g. let q = if_goes g p.client p.coming more in (q.goes_on ≡ false) × (w2 ≡ done P names w (p.deeds ++ q.deeds))) (sym h.0)
@@ -174,7 +174,7 @@ module _ (P : Program) (names : ConstructorNames) where
     }
 
     pub halts_so : (next : meant.Client → Messages Reply → Play) (p : Play) → more far.client far.coming ≡ then_play p next
-        → (Is' Is'' : meant.Client → Type 0) (left' left'' : Option (List ℕ)) (w' : World) (h : Halt) → PlaysAs P names {T = Unit {0}} Is' left' w w' p (Err h)
+        → (Is' Is'' : meant.Client → Type 0) (left' left'' : Option (List ℕ)) (w' : World) (h : PlayStop) → PlaysAs P names {T = Unit {0}} Is' left' w w' p (Err h)
         → PlaysAs P names {T = Unit {0}} Is'' left'' w0 w' whole (Err h)
     halts_so next p e Is' Is'' left' left'' w' h plays =
         subst (λ q. PlaysAs P names {T = Unit {0}} Is'' left'' w0 w' q (Err h)) (sym far.goes)

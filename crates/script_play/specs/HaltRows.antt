@@ -1,9 +1,11 @@
 -- Rows for where a link or a sink that fails breaks a play off, and for what is taken by then. What each word takes, and what it refuses.
-use Rattle.std.specs.Prelude.{◌≡◌, ℕ, true, List, [], ◌∷◌, ◌++◌, Option, Some, None, Ok, Err, refl}
+use Rattle.std.specs.Prelude.{◌≡◌, ℕ, true, List, [], ◌∷◌, ◌++◌, Option, Some, None, Result, Ok, Err, refl}
 use Rattle.std.proofs.Common.{inr}
 use Rattle.core_terms.specs.Formats.{Hash}
 use Rattle.core_terms.specs.Terms.{Program}
+use Rattle.code_gen.specs.declared.code.Code.{Code}
 use Rattle.ideal_meaning.specs.Examples.{bool_program}
+use Rattle.mode_vm.specs.Meanings.{program_of}
 use Rattle.printed_syntax.specs.Literals.{ConstructorNames}
 use Rattle.session_meaning.specs.Client as meant
 use Rattle.session_meaning.specs.MessageRows.{text_digest}
@@ -12,12 +14,13 @@ use Rattle.ask_script.specs.Scripts.{Opens}
 use Rattle.script_play.specs.Halting.{BreaksAt, FailsAt, HaltsAt, IsLeast, TakesNone}
 use Rattle.script_play.specs.HaltingInCode.{BreaksOn, FailsOn, HaltsOn, IsWhole, OnLinkFault, PlaysTo, TakesNext, TakesReply, TakesSoFar, TakesTold}
 use Rattle.script_play.specs.PlayRows.{no_names, played, state}
-use Rattle.script_play.specs.Playing.{World, done, world}
-use Rattle.script_play.specs.PlayingInCode.{IsTelling, take_one}
+use Rattle.script_play.specs.PlayedInCode.{IsPlayed}
+use Rattle.script_play.specs.Playing.{AreComing, PlaysAs, World, done, world}
+use Rattle.script_play.specs.PlayingInCode.{IsTelling, names_of, take_one}
 use Rattle.script_play.specs.Plays.{Play, Sends, Stops, behind, goes_behind, hears, rests, told_of}
 use Rattle.script_play.specs.Prompt.{WaitsForReply}
-use Rattle.script_play.specs.declared.halt.Halt.{Halt}
-use Rattle.script_play.specs.declared.halt.Halt.TheVariants.{Ended, LinkFault, WriteFault, NoMemory}
+use Rattle.script_play.specs.declared.play_stop.PlayStop.{PlayStop}
+use Rattle.script_play.specs.declared.play_stop.PlayStop.TheVariants.{Ended, LinkFault, WriteFault, NoMemory}
 use Rattle.script_play.specs.declared.telling.Telling.{Telling}
 
 -- A REPLY THAT HADN'T COME WHOLE
@@ -82,8 +85,14 @@ module _ (P : Program) (names : ConstructorNames) (w w' : World) (plays : Messag
   takes_so_far Is bytes left more t = (t.parted, t.left, t.stands, t.worlds, t.plays_on, t.least)
 
   pub plays_to : (Is : meant.Client → Type 0) (bytes : List ℕ) (left : Option (List ℕ)) → (TakesSoFar P names Is bytes left w w' plays rests → PlaysTo P names {T = Unit {0}} Is bytes left w w' plays (Ok tt))
-      × ((halt : Halt) → BreaksOn P names bytes left w w' plays halt → PlaysTo P names {T = Unit {0}} Is bytes left w w' plays (Err halt))
+      × ((halt : PlayStop) → BreaksOn P names bytes left w w' plays halt → PlaysTo P names {T = Unit {0}} Is bytes left w w' plays (Err halt))
   plays_to Is bytes left = ((λ t. t), (λ halt b. b))
+
+-- what is played is told of the replies that come, and of the bytes
+pub is_played : (code : Code) (Is : meant.Client → Type 0) (left left' : Option (List ℕ)) (w w' : World) (play : Messages Reply → Play) (result : Result (Unit {0}) PlayStop)
+    → IsPlayed code Is left left' w w' play result → ((ms : Messages Reply) → AreComing left ms → PlaysAs (program_of code) (names_of code) Is left' w w' (play ms) result)
+    × ((bytes : List ℕ) → left ≡ Some bytes → PlaysTo (program_of code) (names_of code) Is bytes left' w w' play result)
+is_played code Is left left' w w' play result p = (p.plays, p.halts)
 
 -- what is said where the link failed is said there alone
 pub on_link_fault : (X : Type 0) → X → OnLinkFault {T = Unit {0}} (Err LinkFault) X × OnLinkFault {T = Unit {0}} (Ok tt) ⊥ × OnLinkFault {T = Unit {0}} (Err Ended) ⊥

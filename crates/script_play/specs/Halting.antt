@@ -7,8 +7,8 @@ use Rattle.session_meaning.specs.Messages.{AtEnd, IsCut, Messages, NoMore, Reply
 use Rattle.script_play.specs.DeedLines.{deed_bytes}
 use Rattle.script_play.specs.Playing.{FailsAtLine, World, done}
 use Rattle.script_play.specs.Plays.{Deed, Play, Sends, Stops, Tells, behind}
-use Rattle.script_play.specs.declared.halt.Halt.{Halt}
-use Rattle.script_play.specs.declared.halt.Halt.TheVariants.{Ended, LinkFault, WriteFault, NoMemory}
+use Rattle.script_play.specs.declared.play_stop.PlayStop.{PlayStop}
+use Rattle.script_play.specs.declared.play_stop.PlayStop.TheVariants.{Ended, LinkFault, WriteFault, NoMemory}
 
 -- A link may keep a deed from being done where it is a request, of which fewer bytes were sent than it has; or where a reply is
 -- waited for, and of the bytes that came none can be read: there are none, or they end inside of a message.
@@ -49,7 +49,7 @@ module _ (P : Program) (names : ConstructorNames) where
     pub least : IsLeast plays taken fails.front
 
   -- Where the link or the sink broke a play off, of which these bytes were taken. Of an end that was told and of want of memory nothing is said here.
-  abbrev pub BreaksAt : (w w' : World) → (Messages Reply → Play) → (taken : List ℕ) → Halt → Type 0
+  abbrev pub BreaksAt : (w w' : World) → (Messages Reply → Play) → (taken : List ℕ) → PlayStop → Type 0
   BreaksAt w w' plays taken LinkFault = HaltsAt w w' (plays (messages reply_of taken)).deeds
   BreaksAt w w' plays taken WriteFault = FailsAt w w' plays taken
   BreaksAt w w' plays taken Ended = ⊤

@@ -8,8 +8,8 @@ use Rattle.session_meaning.specs.Messages.{Messages, NoMore, Reply, Stop, Then, 
 use Rattle.script_play.specs.Playing.{World, done}
 use Rattle.script_play.specs.PlayingInCode.{IsTelling, take_one}
 use Rattle.script_play.specs.Plays.{Deed, Play, behind, goes_behind, hears, rests, told_of}
-use Rattle.script_play.specs.declared.halt.Halt.{Halt}
-use Rattle.script_play.specs.declared.halt.Halt.TheVariants.{Ended, LinkFault, WriteFault, NoMemory}
+use Rattle.script_play.specs.declared.play_stop.PlayStop.{PlayStop}
+use Rattle.script_play.specs.declared.play_stop.PlayStop.TheVariants.{Ended, LinkFault, WriteFault, NoMemory}
 use Rattle.script_play.specs.declared.telling.Telling.{Telling}
 use Rattle.script_play.specs.Halting.{FailsAt, HaltsAt, IsLeast, TakesNone}
 
@@ -50,7 +50,7 @@ module _ (P : Program) (names : ConstructorNames) where
     pub fails : FailsAt P names w w' plays taken
 
   -- the same where these bytes come
-  abbrev pub BreaksOn : (bytes : List ℕ) → (left' : Option (List ℕ)) → (w w' : World) → (Messages Reply → Play) → Halt → Type 0
+  abbrev pub BreaksOn : (bytes : List ℕ) → (left' : Option (List ℕ)) → (w w' : World) → (Messages Reply → Play) → PlayStop → Type 0
   BreaksOn bytes left' w w' plays LinkFault = HaltsOn bytes left' w w' plays
   BreaksOn bytes left' w w' plays WriteFault = FailsOn bytes left' w w' plays
   BreaksOn bytes left' w w' plays Ended = ⊤
@@ -58,12 +58,12 @@ module _ (P : Program) (names : ConstructorNames) where
 
   -- what a play takes of the bytes that come, where it goes on, and where it is broken off
   abbrev pub PlaysTo : {T : Type 0} → (Is : meant.Client → Type 0) → (bytes : List ℕ) → (left' : Option (List ℕ)) → (w w' : World)
-      → (Messages Reply → Play) → Result T Halt → Type 0
+      → (Messages Reply → Play) → Result T PlayStop → Type 0
   PlaysTo Is bytes left' w w' plays (Ok done) = TakesSoFar Is bytes left' w w' plays rests
   PlaysTo Is bytes left' w w' plays (Err halt) = BreaksOn bytes left' w w' plays halt
 
 -- it holds where the link failed
-abbrev pub OnLinkFault : {T : Type 0} → Result T Halt → Type 0 → Type 0
+abbrev pub OnLinkFault : {T : Type 0} → Result T PlayStop → Type 0 → Type 0
 OnLinkFault (Ok done) X = ⊤
 OnLinkFault (Err LinkFault) X = X
 OnLinkFault (Err Ended) X = ⊤
@@ -98,7 +98,7 @@ pub record TakesTold (hash : Hash) (P : Program) (names : ConstructorNames) (own
 
 -- what is taken of the bytes that come where a reply is waited for
 abbrev pub TakesNext : Hash → Program → ConstructorNames → (own : List ℕ) → (Is : meant.Client → Type 0) → (bytes : List ℕ) → (left' : Option (List ℕ))
-    → meant.Client → Result Telling Halt → Type 0
+    → meant.Client → Result Telling PlayStop → Type 0
 TakesNext hash P names own Is bytes left' c (Ok telling) =
     TakesTold hash P names own bytes left' c telling × (telling.goes_on ≡ true → TakesReply hash P names own Is bytes left' c telling)
 TakesNext hash P names own Is bytes left' c (Err LinkFault) = TakesNone bytes left'

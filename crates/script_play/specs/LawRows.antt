@@ -10,10 +10,10 @@ use Rattle.session_meaning.specs.Client.{Answer}
 use Rattle.session_meaning.specs.Messages.{AtEnd, IsCut, TooLong, BadMessage, Request, request_bytes}
 use Rattle.lam_outside.specs.Causes.{Rose}
 use Rattle.script_play.specs.Halting.{IsUnmet}
-use Rattle.script_play.specs.Playing.{BreaksOff, FailsAtLine, PlaysAs, SendsRequest, World}
-use Rattle.script_play.specs.PlayingInCode.{IsCutShort, PlayCause}
+use Rattle.script_play.specs.Playing.{BreaksOff, FailsAtLine, PlaysAs, World}
+use Rattle.script_play.specs.PlayingInCode.{SendsRequest, IsCutShort, PlayCause}
 use Rattle.script_play.specs.Plays.{Play, Sends, Tells, Stops}
-use Rattle.script_play.specs.declared.halt.Halt.TheVariants.{Ended, LinkFault, WriteFault, NoMemory}
+use Rattle.script_play.specs.declared.play_stop.PlayStop.TheVariants.{Ended, LinkFault, WriteFault, NoMemory}
 
 -- a link keeps from being done: a request that isn't sent whole, and a reply that hasn't come whole; nothing else
 pub unmet : (r : Request) (n : ℕ) → n < length (request_bytes r) → IsUnmet (Sends r) n × IsUnmet (Stops AtEnd) n × IsUnmet (Stops IsCut) n

@@ -12,3 +12,5 @@ pub mod Tellings
 pub mod ToldRows
 pub mod HaltingInCode
 pub mod PlayingInCode
+pub mod PlayedInCode
+pub mod PlayLaws

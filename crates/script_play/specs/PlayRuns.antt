@@ -1,22 +1,19 @@
 -- A play as a run of the client: the events of which its deeds come, and what is true of what is told.
-use Rattle.std.specs.Prelude.{◌≡◌, ◌⊎◌, ℕ, true, List, [], ◌∷◌, ◌++◌}
-use Rattle.std.specs.List.{All, flat_map}
-use Rattle.core_terms.specs.Formats.{Hash, IsFormat, IsHash}
+use Rattle.std.specs.Prelude.{◌≡◌, ◌⊎◌, ℕ, List, [], ◌∷◌, ◌++◌}
+use Rattle.std.specs.List.{flat_map}
+use Rattle.core_terms.specs.Formats.{Hash}
 use Rattle.core_terms.specs.Projection.{projection}
 use Rattle.core_terms.specs.Spelling.{spelling}
 use Rattle.core_terms.specs.Terms.{Program}
-use Rattle.core_terms.specs.TypingRules.{IsTyped}
-use Rattle.core_terms.specs.Typing.{is_shaped}
 use Rattle.core_terms.specs.Values.{IsIdeal, Value}
 use Rattle.session_meaning.specs.Calls.{no_role}
 use Rattle.session_meaning.specs.Client as client
 use Rattle.session_meaning.specs.Client.{Answer, Client, Event, Hears, Known, new_client, take_event}
-use Rattle.session_meaning.specs.ClientLaws.{BeginsWith, TrueUpToSplit, event_session, told_calls}
+use Rattle.session_meaning.specs.ToldCalls.{BeginsWith, TrueUpToSplit, event_session, told_calls}
 use Rattle.session_meaning.specs.Messages.{Go, Messages, Reply, Then, session_of}
 use Rattle.session_meaning.specs.Tables.{find}
 use Rattle.session_meaning.specs.Waiting.{called_in}
-use Rattle.ask_script.specs.Scripts.{HasByteArgument, UserStep}
-use Rattle.script_play.specs.Plays.{Deed, Sends, Tells, Stops, play}
+use Rattle.script_play.specs.Plays.{Deed, Sends, Tells, Stops}
 
 -- What is done of a line of a session, where the client answers so: a request is sent, or it is told why none is. And what is done of an event:
 -- of a reply it is told what it tells.
@@ -72,10 +69,3 @@ module _ (hash : Hash) (P : Program) (own : List ℕ) where
     pub truth : (before behind : List Event) → events ≡ before ++ behind → (session : ℕ) (known : Known)
         → BeginsWith known (find session (client_behind new_client before).sessions) → (v : Value) → IsIdeal P.types P.state v
         → known.state ≡ spelling (projection hash P P.state v) → TrueUpToSplit hash P v (told_calls hash P own session (client_behind new_client before) behind)
-
--- Whatever replies come, a play of a script of a sound program tells what is true. The arguments that it passes are of bytes, as those that are read of
--- a text.
-abbrev pub PlaysTellTruth : Type 0
-PlaysTellTruth = (hash : Hash) → IsHash hash → (P : Program) → IsFormat P.format → IsTyped P → is_shaped P ≡ true
-    → (own state : List ℕ) (steps : List UserStep) → All HasByteArgument steps → (ms : Messages Reply)
-    → let p = play hash P own state steps new_client ms in TellsTruth hash P own ms p.coming p.deeds

@@ -1,14 +1,14 @@
 -- What the code of a play does outside, against the play of the definition.
-use Rattle.std.specs.Prelude.{◌≡◌, ℕ, ◌<◌, true, false, List, [], ◌∷◌, ◌++◌, length, take, Option, Some, Result, Ok, Err}
+use Rattle.std.specs.Prelude.{◌≡◌, ℕ, true, false, List, [], ◌∷◌, ◌++◌, take, Option, Some, Result, Ok, Err}
 use Rattle.std.specs.Io.KnownBytes.{append_known}
 use Rattle.core_terms.specs.Terms.{Program}
 use Rattle.printed_syntax.specs.Literals.{ConstructorNames}
 use Rattle.session_meaning.specs.Client as meant
-use Rattle.session_meaning.specs.Messages.{Messages, Reply, Request, reply_of, messages, request_bytes}
+use Rattle.session_meaning.specs.Messages.{Messages, Reply, reply_of, messages}
 use Rattle.script_play.specs.DeedLines.{bytes_sent, deed_bytes, deed_line, lines_told}
 use Rattle.script_play.specs.Plays.{Deed, Play, made_last}
-use Rattle.script_play.specs.declared.halt.Halt.{Halt}
-use Rattle.script_play.specs.declared.halt.Halt.TheVariants.{Ended, LinkFault, WriteFault, NoMemory}
+use Rattle.script_play.specs.declared.play_stop.PlayStop.{PlayStop}
+use Rattle.script_play.specs.declared.play_stop.PlayStop.TheVariants.{Ended, LinkFault, WriteFault, NoMemory}
 
 -- What a play changes: the bytes that were sent and those that were written, where the link and the sink tell them, and the state
 -- that was told last, where one was.
@@ -62,17 +62,9 @@ module _ (P : Program) (names : ConstructorNames) where
     pub last : w'.last ≡ (done w (front ++ next ∷ [])).last
 
   -- The play is played, and the script goes on; or it is played to its end; or it was broken off.
-  abbrev pub PlaysAs : {T : Type 0} → (meant.Client → Type 0) → (left' : Option (List ℕ)) → (w w' : World) → Play → Result T Halt → Type 0
+  abbrev pub PlaysAs : {T : Type 0} → (meant.Client → Type 0) → (left' : Option (List ℕ)) → (w w' : World) → Play → Result T PlayStop → Type 0
   PlaysAs Is left' w w' p (Ok played) = (p.goes_on ≡ true) × (w' ≡ done w p.deeds) × Is p.client × AreComing left' p.coming
   PlaysAs Is left' w w' p (Err Ended) = (p.goes_on ≡ false) × (w' ≡ done w p.deeds)
   PlaysAs Is left' w w' p (Err LinkFault) = BreaksOff w w' p.deeds
   PlaysAs Is left' w w' p (Err NoMemory) = BreaksOff w w' p.deeds
   PlaysAs Is left' w w' p (Err WriteFault) = FailsAtLine w w' p.deeds
-
--- a request is sent whole, or a front of it; not all of it where the link failed
-abbrev pub SendsRequest : Request → Option (List ℕ) → Option (List ℕ) → Result (Unit {0}) Halt → Type 0
-SendsRequest request sent sent' (Ok done) = sent' ≡ append_known sent (request_bytes request)
-SendsRequest request sent sent' (Err LinkFault) = (count : ℕ) × (count < length (request_bytes request)) × (sent' ≡ append_known sent (take count (request_bytes request)))
-SendsRequest request sent sent' (Err NoMemory) = (count : ℕ) × (sent' ≡ append_known sent (take count (request_bytes request)))
-SendsRequest request sent sent' (Err Ended) = ⊥
-SendsRequest request sent sent' (Err WriteFault) = ⊥

@@ -1,5 +1,5 @@
 -- The play of a script, as its functions tell it.
-use Rattle.std.specs.Prelude.{◌≡◌, ℕ, Bool, true, false, List, [], ◌∷◌, take, Option, Result, Ok, Err, ⊤}
+use Rattle.std.specs.Prelude.{◌≡◌, ℕ, Bool, true, false, List, [], ◌∷◌, take, Option, Result, Ok, Err, ⊤, ◌<◌, length}
 use Rattle.std.specs.Option.{option_or}
 use Rattle.std.specs.Io.KnownBytes.{append_known}
 use Rattle.lam_outside.specs.Causes.{Rose}
@@ -10,7 +10,7 @@ use Rattle.code_gen.specs.Programs.{program_in}
 use Rattle.code_gen.specs.declared.code.Code.{Code}
 use Rattle.printed_syntax.specs.Literals.{ConstructorNames}
 use Rattle.session_meaning.specs.Client as meant
-use Rattle.session_meaning.specs.Messages.{Messages, NoMore, Then, Reply}
+use Rattle.session_meaning.specs.Messages.{Messages, NoMore, Then, Reply, Request, request_bytes}
 use Rattle.wire_form.specs.MessageViews.{request_meant}
 use Rattle.wire_form.specs.declared.message.Request.{Request as AskedRequest}
 use Rattle.ask_core.specs.Answers.{fault_told}
@@ -19,11 +19,12 @@ use Rattle.ask_core.specs.declared.told.AskFault.{AskFault}
 use Rattle.ask_core.specs.declared.told.AskFault.TheVariants.{BadState, BadArgument, OutOfTurn, Rejected, Stranger, WrongReply, Failed, Broken, Closed, NoMemory as NoAskMemory}
 use Rattle.script_play.specs.DeedLines.{deed_line}
 use Rattle.script_play.specs.Plays.{Deed, Stops, Play, behind, ends, goes_behind, hears, if_goes, deed_made, rests, told_of}
-use Rattle.script_play.specs.declared.halt.Halt.{Halt}
-use Rattle.script_play.specs.declared.halt.Halt.TheVariants.{Ended, LinkFault, WriteFault, NoMemory}
+use Rattle.script_play.specs.declared.play_stop.PlayStop.{PlayStop}
+use Rattle.script_play.specs.declared.play_stop.PlayStop.TheVariants.{Ended, LinkFault, WriteFault, NoMemory}
 use Rattle.script_play.specs.declared.taking.Whose.{Whose}
 use Rattle.script_play.specs.declared.taking.Whose.TheVariants.{One, All}
 use Rattle.script_play.specs.declared.telling.Telling.{Telling}
+use Rattle.script_play.specs.Playing.{done}
 
 module _ (P : Program) (names : ConstructorNames) where
   -- the line of a deed, the state that it makes, and whether the script goes on behind it
@@ -33,7 +34,7 @@ module _ (P : Program) (names : ConstructorNames) where
     pub goes_on : telling.goes_on ≡ goes
 
 -- It was told, and the script goes on, or not; or the sink took a front of its line.
-abbrev pub TellingIsTold : Telling → (written written' last last' : Option (List ℕ)) → Result (Unit {0}) Halt → Type 0
+abbrev pub TellingIsTold : Telling → (written written' last last' : Option (List ℕ)) → Result (Unit {0}) PlayStop → Type 0
 TellingIsTold telling written written' last last' (Ok told) = (telling.goes_on ≡ true) × (written' ≡ append_known written telling.line.items) × (last' ≡ option_or telling.made last)
 TellingIsTold telling written written' last last' (Err Ended) = (telling.goes_on ≡ false) × (written' ≡ append_known written telling.line.items) × (last' ≡ option_or telling.made last)
 TellingIsTold telling written written' last last' (Err WriteFault) =
@@ -49,7 +50,7 @@ abbrev pub own_of : Code → List ℕ
 own_of code = (program_in code).text_digest.0
 
 -- what is found fails only for the link or for want of memory
-abbrev pub IsCutShort : Halt → Type 0
+abbrev pub IsCutShort : PlayStop → Type 0
 IsCutShort LinkFault = Unit {0}
 IsCutShort NoMemory = Unit {0}
 IsCutShort Ended = ⊥
@@ -91,9 +92,17 @@ waits_for (One session) c = meant.waits c session
 waits_for All c = some_waits c
 
 -- the link's count of faults rose at a link fault alone, the sink's at a write fault alone
-abbrev pub PlayCause : {T : Type 0} → (link link' sink sink' : ℕ) → Result T Halt → Type 0
+abbrev pub PlayCause : {T : Type 0} → (link link' sink sink' : ℕ) → Result T PlayStop → Type 0
 PlayCause link link' sink sink' (Ok played) = (link' ≡ link) × (sink' ≡ sink)
 PlayCause link link' sink sink' (Err Ended) = (link' ≡ link) × (sink' ≡ sink)
 PlayCause link link' sink sink' (Err LinkFault) = Rose link link' × (sink' ≡ sink)
 PlayCause link link' sink sink' (Err NoMemory) = (link' ≡ link) × (sink' ≡ sink)
 PlayCause link link' sink sink' (Err WriteFault) = (link' ≡ link) × Rose sink sink'
+
+-- a request is sent whole, or a front of it; not all of it where the link failed
+abbrev pub SendsRequest : Request → Option (List ℕ) → Option (List ℕ) → Result (Unit {0}) PlayStop → Type 0
+SendsRequest request sent sent' (Ok done) = sent' ≡ append_known sent (request_bytes request)
+SendsRequest request sent sent' (Err LinkFault) = (count : ℕ) × (count < length (request_bytes request)) × (sent' ≡ append_known sent (take count (request_bytes request)))
+SendsRequest request sent sent' (Err NoMemory) = (count : ℕ) × (sent' ≡ append_known sent (take count (request_bytes request)))
+SendsRequest request sent sent' (Err Ended) = ⊥
+SendsRequest request sent sent' (Err WriteFault) = ⊥

@@ -26,8 +26,8 @@ use Rattle.script_play.specs.DeedLines.{deed_bytes, stop_line}
 use Rattle.script_play.specs.Plays.{Deed, behind, goes_behind, if_goes, rests}
 use Rattle.script_play.specs.Playing.{AreComing}
 use Rattle.script_play.specs.PlayingInCode.{IsTelling, take_one}
-use Rattle.script_play.specs.declared.halt.Halt.{Halt}
-use Rattle.script_play.specs.declared.halt.Halt.TheVariants.{Ended, LinkFault, WriteFault, NoMemory}
+use Rattle.script_play.specs.declared.play_stop.PlayStop.{PlayStop}
+use Rattle.script_play.specs.declared.play_stop.PlayStop.TheVariants.{Ended, LinkFault, WriteFault, NoMemory}
 use Rattle.script_play.specs.declared.telling.Telling.{Telling}
 
 -- an outcome is told
@@ -80,7 +80,7 @@ IsStop (stop.BadMessage kind offset) st = st ≡ BadMessage kind offset
 IsStop stop.LinkFault st = ⊥
 IsStop stop.NoMemory st = ⊥
 
-abbrev pub IsStopLine : ReadStop → Result (Vec ℕ Global) Halt → Type 0
+abbrev pub IsStopLine : ReadStop → Result (Vec ℕ Global) PlayStop → Type 0
 IsStopLine s (Ok line) = (st : Stop) × IsStop s st × (line.items ≡ stop_line st)
 IsStopLine s (Err LinkFault) = s ≡ stop.LinkFault
 IsStopLine s (Err NoMemory) = (s ≡ stop.LinkFault) → ⊥
@@ -88,7 +88,7 @@ IsStopLine s (Err Ended) = ⊥
 IsStopLine s (Err WriteFault) = ⊥
 
 -- the same of what is told, behind which the script doesn't go on
-abbrev pub IsStopTold : ReadStop → Result Telling Halt → Type 0
+abbrev pub IsStopTold : ReadStop → Result Telling PlayStop → Type 0
 IsStopTold s (Ok telling) = (st : Stop) × IsStop s st × (telling.line.items ≡ stop_line st) × (telling.made ≡ None) × (telling.goes_on ≡ false)
 IsStopTold s (Err LinkFault) = s ≡ stop.LinkFault
 IsStopTold s (Err NoMemory) = (s ≡ stop.LinkFault) → ⊥

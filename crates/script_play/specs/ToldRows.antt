@@ -25,7 +25,7 @@ use Rattle.ideal_meaning.specs.Told.{cause_told}
 use Rattle.session_meaning.specs.Calls.{no_role, role_in}
 use Rattle.session_meaning.specs.Client as client
 use Rattle.session_meaning.specs.Client.{Answer, Client, Event, Known, Taken, Hellos, Hears, new_client}
-use Rattle.session_meaning.specs.ClientLaws.{BeginsWith, TrueUpToSplit, told_calls}
+use Rattle.session_meaning.specs.ToldCalls.{BeginsWith, TrueUpToSplit, told_calls}
 use Rattle.session_meaning.specs.MessageLaws.{all_of}
 use Rattle.session_meaning.specs.MessageRows.{text_digest}
 use Rattle.session_meaning.specs.Messages.{Hello, Bye, Go, Welcome, AtEnd, IsCut, TooLong, BadMessage, Messages, NoMore, Reply, Request, messages, reply_bytes, reply_of, request_bytes}
@@ -48,11 +48,11 @@ use Rattle.ask_script.specs.Scripts.{Opens}
 use Rattle.script_play.specs.DeedLines.{answer_line, deed_bytes, deed_line, outcome_line}
 use Rattle.script_play.specs.PlayRows.{no_names, played, state}
 use Rattle.script_play.specs.PlayRuns.{DeedsFollow, TellsTruth, begin_with, client_behind, replies_heard}
-use Rattle.script_play.specs.Playing.{AreComing, BreaksOff, FailsAtLine, PlaysAs, SendsRequest, World, world}
-use Rattle.script_play.specs.PlayingInCode.{ClientAnswers, IsAnswered, IsTelling, TellingIsTold, PlayCause, is_sending, take_one, waits_for}
+use Rattle.script_play.specs.Playing.{AreComing, BreaksOff, FailsAtLine, PlaysAs, World, world}
+use Rattle.script_play.specs.PlayingInCode.{SendsRequest, ClientAnswers, IsAnswered, IsTelling, TellingIsTold, PlayCause, is_sending, take_one, waits_for}
 use Rattle.script_play.specs.Plays.{Deed, Play, Sends, Tells, behind, deed_made, if_goes, rests}
 use Rattle.script_play.specs.Tellings.{IsNext, IsStop, IsStopLine, IsStopTold, OfAnswer, called_updates, is_outcome, is_update, makes, makes_state, state_if, told_done, told_goes}
-use Rattle.script_play.specs.declared.halt.Halt.TheVariants.{Ended, LinkFault, WriteFault, NoMemory}
+use Rattle.script_play.specs.declared.play_stop.PlayStop.TheVariants.{Ended, LinkFault, WriteFault, NoMemory}
 use Rattle.script_play.specs.declared.taking.Whose.TheVariants.{One, All}
 use Rattle.script_play.specs.declared.telling.Telling.{Telling}
 

@@ -12,12 +12,12 @@ ghost use Rattle.ask_core.specs.Replies.{step_taken};
 ghost use Rattle.script_play.specs.Halting.{HaltsAt};
 ghost use Rattle.script_play.specs.HaltingInCode.{OnLinkFault};
 ghost use Rattle.script_play.specs.Plays.{Tells, asked_play, goes_behind, rests};
-ghost use Rattle.script_play.specs.Playing.{AreComing, PlaysAs, SendsRequest, world};
-ghost use Rattle.script_play.specs.PlayingInCode.{ClientAnswers, IsAnswered, IsTelling, PlayCause, is_sending};
+ghost use Rattle.script_play.specs.Playing.{AreComing, PlaysAs, world};
+ghost use Rattle.script_play.specs.PlayingInCode.{SendsRequest, ClientAnswers, IsAnswered, IsTelling, PlayCause, is_sending};
 
-use crate::halt::Halt;
 use crate::hearing::goes_behind;
 use crate::lines::fault_line;
+use crate::play_stop::PlayStop;
 use crate::telling::{Telling, tell};
 use ask_core::AskFault;
 use core_terms::Spelling;
@@ -33,7 +33,7 @@ pub fn ask<L: Link, O: Sink>(
     link: &mut L,
     out: &mut O,
     last: &mut Option<Spelling>,
-) -> Result<bool, Halt>
+) -> Result<bool, PlayStop>
     requires message { IfOk answered (λ request. IsRequest (request_meant request)) }
     ensures plays { (P : tree.Program) (names : ConstructorNames) (t : Taken) (ms : Messages Reply) → ClientAnswers (λ c. Unit {0}) t answered → AreComing (L.left link.old) ms
         → PlaysAs P names (λ c. c ≡ t.client) (L.left link.new)
@@ -79,7 +79,7 @@ fn refused(alloc: Global, session: u16, fault: AskFault) -> Result<Telling, Allo
 }
 
 /// Sends a request.
-pub fn send<L: Link>(alloc: Global, link: &mut L, request: &Request) -> Result<(), Halt>
+pub fn send<L: Link>(alloc: Global, link: &mut L, request: &Request) -> Result<(), PlayStop>
     requires { IsRequest (request_meant request.now) }
     ensures sends { SendsRequest (request_meant request.now) (L.sent link.old) (L.sent link.new) result }
     ensures reads { L.reads link.new ≡ L.reads link.old }
@@ -90,7 +90,7 @@ pub fn send<L: Link>(alloc: Global, link: &mut L, request: &Request) -> Result<(
 {
     match write_request(alloc, link, request) {
         Ok(()) => Ok(()),
-        Err(WriteStop::LinkFault) => Err(Halt::LinkFault),
-        Err(WriteStop::NoMemory) => Err(Halt::NoMemory),
+        Err(WriteStop::LinkFault) => Err(PlayStop::LinkFault),
+        Err(WriteStop::NoMemory) => Err(PlayStop::NoMemory),
     }
 }

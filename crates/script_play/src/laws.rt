@@ -1,5 +1,5 @@
 //! What is true of whole plays, by their definition: the contract of a function that does nothing.
-ghost use Rattle.script_play.specs.PlayRuns.{PlaysTellTruth};
+ghost use Rattle.script_play.specs.PlayLaws.{PlaysTellTruth};
 
 /// A play of a script, whoever serves.
 ///

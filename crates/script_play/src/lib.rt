@@ -5,13 +5,13 @@
 #![tactic(auto)]
 
 mod asking;
-mod halt;
 mod hearing;
 pub mod laws;
 mod lines;
+mod play_stop;
 mod playing;
 mod taking;
 mod telling;
 
-pub use halt::Halt;
+pub use play_stop::PlayStop;
 pub use playing::play;

@@ -14,7 +14,7 @@ ghost use Rattle.ask_core.specs.Replies.{step_taken};
 ghost use Rattle.script_play.specs.DeedLines.{answer_line, outcome_line};
 ghost use Rattle.script_play.specs.Tellings.{IsStopLine, OfAnswer, is_outcome};
 
-use crate::halt::Halt;
+use crate::play_stop::PlayStop;
 use ask_core::{AskFault, CalledRole, Told};
 use core_terms::{Outcome, Program, Spelling};
 use printed_lines::lines::{named_done_line, out_line, trap_line};
@@ -111,7 +111,7 @@ pub fn fault_line(alloc: Global, session: u16, fault: AskFault) -> Result<Vec<u8
 }
 
 /// The line of why no more replies are read. There is none for a link that failed or the want of memory.
-pub fn stop_line(alloc: Global, stop: ReadStop) -> Result<Vec<u8>, Halt>
+pub fn stop_line(alloc: Global, stop: ReadStop) -> Result<Vec<u8>, PlayStop>
     ensures { IsStopLine stop result }
 {
     match stop {
@@ -119,7 +119,7 @@ pub fn stop_line(alloc: Global, stop: ReadStop) -> Result<Vec<u8>, Halt>
         ReadStop::TooLong(len) => Ok(long_message_line(alloc, len)?),
         ReadStop::End => Ok(Vec::from_slice(alloc, no_reply_line().as_bytes())?),
         ReadStop::Cut => Ok(Vec::from_slice(alloc, cut_line().as_bytes())?),
-        ReadStop::LinkFault => Err(Halt::LinkFault),
-        ReadStop::NoMemory => Err(Halt::NoMemory),
+        ReadStop::LinkFault => Err(PlayStop::LinkFault),
+        ReadStop::NoMemory => Err(PlayStop::NoMemory),
     }
 }

@@ -4,7 +4,6 @@ ghost use Rattle.std.specs.List.{All};
 ghost use Rattle.mode_vm.specs.Meanings.{program_of};
 ghost use Rattle.lam_outside.specs.LinkSteps.{AtEachRead};
 ghost use Rattle.session_meaning.specs.Client.{Client, Taken, waits};
-ghost use Rattle.session_meaning.specs.Messages.{Messages, Reply};
 ghost use Rattle.session_meaning.specs.MessageFields.{IsRequest};
 ghost use Rattle.wire_form.specs.MessageViews.{request_meant};
 ghost use Rattle.wire_form.specs.MovedBytes.{Moves};
@@ -12,14 +11,14 @@ ghost use Rattle.ask_core.specs.Sessions.{StandsFor, StandsForSome};
 ghost use Rattle.session_meaning.specs.Waiting.{some_calls};
 ghost use Rattle.ask_script.specs.ScriptAnswers.{step_meant};
 ghost use Rattle.ask_script.specs.Scripts.{Fits};
-ghost use Rattle.script_play.specs.HaltingInCode.{PlaysTo};
+ghost use Rattle.script_play.specs.PlayedInCode.{IsPlayed};
 ghost use Rattle.script_play.specs.Plays.{asked_play, lets_run, play, play_step, take_replies};
-ghost use Rattle.script_play.specs.Playing.{AreComing, PlaysAs, world};
-ghost use Rattle.script_play.specs.PlayingInCode.{ClientAnswers, PlayCause, names_of, own_of};
+ghost use Rattle.script_play.specs.Playing.{world};
+ghost use Rattle.script_play.specs.PlayingInCode.{ClientAnswers, PlayCause, own_of};
 ghost use Rattle.script_play.specs.Prompt.{IsPromptOn};
 
 use crate::asking::{ask, send};
-use crate::halt::Halt;
+use crate::play_stop::PlayStop;
 use crate::taking::{Whose, take_replies};
 use ask_core::{AskCore, AskFault};
 use ask_script::Step;
@@ -46,15 +45,11 @@ pub fn play<H: Hash32, L: Link, O: Sink>(
     link: &mut L,
     out: &mut O,
     last: &mut Option<Spelling>,
-) -> Result<(), Halt>
+) -> Result<(), PlayStop>
     requires known { StandsForSome core.old }
     requires script { All (λ step. Fits (program_of core.old.code) (step_meant step)) steps.now }
-    ensures plays { let code = core.old.code in (c : Client) (ms : Messages Reply) → StandsFor core.old c → AreComing (L.left link.old) ms
-        → PlaysAs (program_of code) (names_of code) (StandsFor core.new) (L.left link.new)
-        (world (L.sent link.old) (O.written out.old) last.old) (world (L.sent link.new) (O.written out.new) last.new)
-        (play H.hash (program_of code) (own_of code) state.now (map step_meant steps.now) c ms) result }
-    ensures halts { let code = core.old.code in (c : Client) (bytes : List ℕ) → StandsFor core.old c → L.left link.old ≡ Some bytes
-        → PlaysTo (program_of code) (names_of code) (StandsFor core.new) bytes (L.left link.new)
+    ensures played { let code = core.old.code in (c : Client) → StandsFor core.old c
+        → IsPlayed code (StandsFor core.new) (L.left link.old) (L.left link.new)
         (world (L.sent link.old) (O.written out.old) last.old) (world (L.sent link.new) (O.written out.new) last.new)
         (play H.hash (program_of code) (own_of code) state.now (map step_meant steps.now) c) result }
     ensures prompt { let code = core.old.code in (c : Client) (bytes : List ℕ) → StandsFor core.old c → L.left link.old ≡ Some bytes
@@ -82,16 +77,12 @@ fn play_step<H: Hash32, L: Link, O: Sink>(
     link: &mut L,
     out: &mut O,
     last: &mut Option<Spelling>,
-) -> Result<(), Halt>
+) -> Result<(), PlayStop>
     requires known { StandsForSome core.old }
     requires own { length (own_of core.old.code) ≡ 32 }
     requires step { Fits (program_of core.old.code) (step_meant step.now) }
-    ensures plays { let code = core.old.code in (c : Client) (ms : Messages Reply) → StandsFor core.old c → AreComing (L.left link.old) ms
-        → PlaysAs (program_of code) (names_of code) (StandsFor core.new) (L.left link.new)
-        (world (L.sent link.old) (O.written out.old) last.old) (world (L.sent link.new) (O.written out.new) last.new)
-        (play_step H.hash (program_of code) (own_of code) state.now (step_meant step.now) c ms) result }
-    ensures halts { let code = core.old.code in (c : Client) (bytes : List ℕ) → StandsFor core.old c → L.left link.old ≡ Some bytes
-        → PlaysTo (program_of code) (names_of code) (StandsFor core.new) bytes (L.left link.new)
+    ensures played { let code = core.old.code in (c : Client) → StandsFor core.old c
+        → IsPlayed code (StandsFor core.new) (L.left link.old) (L.left link.new)
         (world (L.sent link.old) (O.written out.old) last.old) (world (L.sent link.new) (O.written out.new) last.new)
         (play_step H.hash (program_of code) (own_of code) state.now (step_meant step.now) c) result }
     ensures prompt { let code = core.old.code in (c : Client) (bytes : List ℕ) → StandsFor core.old c → L.left link.old ≡ Some bytes
@@ -134,16 +125,11 @@ fn ask_and_wait<H: Hash32, L: Link, O: Sink>(
     link: &mut L,
     out: &mut O,
     last: &mut Option<Spelling>,
-) -> Result<(), Halt>
+) -> Result<(), PlayStop>
     requires known { StandsForSome core.old }
     requires message { IfOk answered (λ request. IsRequest (request_meant request)) }
-    ensures plays { let code = core.old.code in let P = program_of code in
-        (t : Taken) (ms : Messages Reply) → ClientAnswers (StandsFor core.old) t answered → AreComing (L.left link.old) ms
-        → PlaysAs P (names_of code) (StandsFor core.new) (L.left link.new)
-        (world (L.sent link.old) (O.written out.old) last.old) (world (L.sent link.new) (O.written out.new) last.new)
-        (asked_play t session ms (take_replies H.hash P (own_of code) (λ c. waits c session))) result }
-    ensures halts { let code = core.old.code in (t : Taken) (bytes : List ℕ) → ClientAnswers (StandsFor core.old) t answered → L.left link.old ≡ Some bytes
-        → PlaysTo (program_of code) (names_of code) (StandsFor core.new) bytes (L.left link.new)
+    ensures played { let code = core.old.code in (t : Taken) → ClientAnswers (StandsFor core.old) t answered
+        → IsPlayed code (StandsFor core.new) (L.left link.old) (L.left link.new)
         (world (L.sent link.old) (O.written out.old) last.old) (world (L.sent link.new) (O.written out.new) last.new)
         (λ ms. asked_play t session ms (take_replies H.hash (program_of code) (own_of code) (λ c. waits c session))) result }
     ensures prompt { let code = core.old.code in (t : Taken) (bytes : List ℕ) → ClientAnswers (StandsFor core.old) t answered → L.left link.old ≡ Some bytes
@@ -169,14 +155,10 @@ fn let_run<H: Hash32, L: Link, O: Sink>(
     link: &mut L,
     out: &mut O,
     last: &mut Option<Spelling>,
-) -> Result<(), Halt>
+) -> Result<(), PlayStop>
     requires known { StandsForSome core.old }
-    ensures plays { let code = core.old.code in (c : Client) (ms : Messages Reply) → StandsFor core.old c → AreComing (L.left link.old) ms
-        → PlaysAs (program_of code) (names_of code) (StandsFor core.new) (L.left link.new)
-        (world (L.sent link.old) (O.written out.old) last.old) (world (L.sent link.new) (O.written out.new) last.new)
-        (lets_run H.hash (program_of code) (own_of code) (some_calls c) c ms) result }
-    ensures halts { let code = core.old.code in (c : Client) (bytes : List ℕ) → StandsFor core.old c → L.left link.old ≡ Some bytes
-        → PlaysTo (program_of code) (names_of code) (StandsFor core.new) bytes (L.left link.new)
+    ensures played { let code = core.old.code in (c : Client) → StandsFor core.old c
+        → IsPlayed code (StandsFor core.new) (L.left link.old) (L.left link.new)
         (world (L.sent link.old) (O.written out.old) last.old) (world (L.sent link.new) (O.written out.new) last.new)
         (lets_run H.hash (program_of code) (own_of code) (some_calls c) c) result }
     ensures prompt { let code = core.old.code in (c : Client) (bytes : List ℕ) → StandsFor core.old c → L.left link.old ≡ Some bytes

@@ -5,18 +5,19 @@ ghost use Rattle.session_meaning.specs.Client.{Client};
 ghost use Rattle.session_meaning.specs.Messages.{Messages, Reply};
 ghost use Rattle.wire_form.specs.MovedBytes.{Moves};
 ghost use Rattle.ask_core.specs.Sessions.{StandsFor, StandsForSome, sessions_waiting};
-ghost use Rattle.script_play.specs.HaltingInCode.{PlaysTo, TakesNext};
+ghost use Rattle.script_play.specs.HaltingInCode.{TakesNext};
+ghost use Rattle.script_play.specs.PlayedInCode.{IsPlayed};
 ghost use Rattle.script_play.specs.Plays.{take_replies};
-ghost use Rattle.script_play.specs.Playing.{AreComing, PlaysAs, world};
+ghost use Rattle.script_play.specs.Playing.{AreComing, world};
 ghost use Rattle.script_play.specs.PlayingInCode.{IsCutShort, PlayCause, names_of, own_of, take_one, waits_for};
 ghost use Rattle.std.specs.Option.{ForSome};
 ghost use Rattle.lam_outside.specs.LinkSteps.{AtEachRead};
 ghost use Rattle.script_play.specs.Prompt.{IsPromptOn, WaitsForReply};
 ghost use Rattle.script_play.specs.Tellings.{IsNext, IsStopTold};
 
-use crate::halt::Halt;
 use crate::hearing::hear;
 use crate::lines::stop_line;
+use crate::play_stop::PlayStop;
 use crate::telling::{Telling, tell};
 use ask_core::AskCore;
 use core_terms::{Hash32, Spelling};
@@ -53,15 +54,12 @@ pub fn take_replies<H: Hash32, L: Link, O: Sink>(
     link: &mut L,
     out: &mut O,
     last: &mut Option<Spelling>,
-) -> Result<(), Halt>
+) -> Result<(), PlayStop>
     requires known { StandsForSome core.old }
-    ensures plays { let code = core.old.code in (c : Client) (ms : Messages Reply) → StandsFor core.old c → AreComing (L.left link.old) ms
-        → PlaysAs (program_of code) (names_of code) (StandsFor core.new) (L.left link.new)
+    ensures played { let code = core.old.code in (c : Client) → StandsFor core.old c
+        → IsPlayed code (StandsFor core.new) (L.left link.old) (L.left link.new)
         (world (L.sent link.old) (O.written out.old) last.old) (world (L.sent link.new) (O.written out.new) last.new)
-        (take_replies H.hash (program_of code) (own_of code) (waits_for whose) c ms) result }
-    ensures halts { let code = core.old.code in (c : Client) (bytes : List ℕ) → StandsFor core.old c → L.left link.old ≡ Some bytes
-        → PlaysTo (program_of code) (names_of code) (StandsFor core.new) bytes (L.left link.new)
-        (world (L.sent link.old) (O.written out.old) last.old) (world (L.sent link.new) (O.written out.new) last.new) (take_replies H.hash (program_of code) (own_of code) (waits_for whose) c) result }
+        (take_replies H.hash (program_of code) (own_of code) (waits_for whose) c) result }
     ensures prompt { let code = core.old.code in (c : Client) (bytes : List ℕ) → StandsFor core.old c → L.left link.old ≡ Some bytes
         → AtEachRead (IsPromptOn bytes (L.sent link.old) (take_replies H.hash (program_of code) (own_of code) (waits_for whose) c)) (L.reads link.old) (L.reads link.new) }
     ensures known { StandsForSome core.new }
@@ -83,15 +81,12 @@ fn take_one<H: Hash32, L: Link, O: Sink>(
     link: &mut L,
     out: &mut O,
     last: &mut Option<Spelling>,
-) -> Result<(), Halt>
+) -> Result<(), PlayStop>
     requires known { StandsForSome core.old }
-    ensures plays { let code = core.old.code in (c : Client) (ms : Messages Reply) → StandsFor core.old c → AreComing (L.left link.old) ms
-        → PlaysAs (program_of code) (names_of code) (StandsFor core.new) (L.left link.new)
+    ensures played { let code = core.old.code in (c : Client) → StandsFor core.old c
+        → IsPlayed code (StandsFor core.new) (L.left link.old) (L.left link.new)
         (world (L.sent link.old) (O.written out.old) last.old) (world (L.sent link.new) (O.written out.new) last.new)
-        (take_one H.hash (program_of code) (own_of code) c ms) result }
-    ensures halts { let code = core.old.code in (c : Client) (bytes : List ℕ) → StandsFor core.old c → L.left link.old ≡ Some bytes
-        → PlaysTo (program_of code) (names_of code) (StandsFor core.new) bytes (L.left link.new)
-        (world (L.sent link.old) (O.written out.old) last.old) (world (L.sent link.new) (O.written out.new) last.new) (take_one H.hash (program_of code) (own_of code) c) result }
+        (take_one H.hash (program_of code) (own_of code) c) result }
     ensures fewer { OnOk result (sessions_waiting core.new < sessions_waiting core.old) }
     ensures waits { ForSome (L.left link.old) (λ bytes. AtEachRead (WaitsForReply bytes (L.sent link.old)) (L.reads link.old) (L.reads link.new)) }
     ensures known { StandsForSome core.new }
@@ -109,7 +104,7 @@ fn next_telling<H: Hash32, L: Link>(
     alloc: Global,
     core: &mut AskCore<H>,
     link: &mut L,
-) -> Result<Telling, Halt>
+) -> Result<Telling, PlayStop>
     requires known { StandsForSome core.old }
     ensures next { let code = core.old.code in (c : Client) (ms : Messages Reply) → StandsFor core.old c → AreComing (L.left link.old) ms
         → IfOk result (IsNext H.hash (program_of code) (names_of code) (own_of code) (StandsFor core.new) (L.left link.new) c ms) }
@@ -132,7 +127,7 @@ fn next_telling<H: Hash32, L: Link>(
 }
 
 /// What is told where no reply can be read.
-fn stopped(alloc: Global, stop: ReadStop) -> Result<Telling, Halt>
+fn stopped(alloc: Global, stop: ReadStop) -> Result<Telling, PlayStop>
     ensures { IsStopTold stop result }
 {
     let line = stop_line(alloc, stop)?;

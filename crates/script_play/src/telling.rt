@@ -1,7 +1,7 @@
 // What is told, and its line.
 ghost use Rattle.std.specs.Prelude.{ℕ};
 
-use crate::halt::Halt;
+use crate::play_stop::PlayStop;
 use core_terms::Spelling;
 use lam_outside::{Sink, write_all};
 
@@ -18,7 +18,11 @@ pub struct Telling {
 ghost use Rattle.script_play.specs.PlayingInCode.{TellingIsTold, PlayCause};
 
 /// Tells: the state that was made is the one told last, from before the line is written on.
-pub fn tell<O: Sink>(out: &mut O, last: &mut Option<Spelling>, telling: Telling) -> Result<(), Halt>
+pub fn tell<O: Sink>(
+    out: &mut O,
+    last: &mut Option<Spelling>,
+    telling: Telling,
+) -> Result<(), PlayStop>
     ensures told { TellingIsTold telling (O.written out.old) (O.written out.new) last.old last.new result }
     ensures cause { (link : ℕ) → PlayCause link link (O.faults out.old) (O.faults out.new) result }
 {
@@ -32,5 +36,5 @@ pub fn tell<O: Sink>(out: &mut O, last: &mut Option<Spelling>, telling: Telling)
     if goes_on {
         return Ok(());
     }
-    Err(Halt::Ended)
+    Err(PlayStop::Ended)
 }

@@ -2,6 +2,7 @@
 use Rattle.std.proofs.Common.{◌≡◌, ℕ, suc, ◌*◌, ◌<◌, ◌≤◌, Bool, true, false, not, nat_lt, if◌then◌else◌, List, [], ◌∷◌, length, get_or}
 use Rattle.std.proofs.Common.{Option, Some, None, is_some, Result, Ok, Err, refl, ap, ◌∙◌, subst, arith, ltb-false}
 use Rattle.core_terms.specs.Formats.{Hash}
+use Rattle.core_terms.specs.Limits.{most_fuel}
 use Rattle.core_terms.specs.Projection.{read_at}
 use Rattle.core_terms.specs.Spelling.{AreBytes}
 use Rattle.core_terms.specs.Terms.{Program}
@@ -33,14 +34,14 @@ module _ (hash : Hash) (P : Program) (own : List ℕ) (ending : ℕ → ℕ) whe
 
   -- a call that is admitted has no more fuel than there may be
   pub fuel_fits : (o : Option meant.Session) (versions role fuel : ℕ) (argument : List ℕ) (a : meant.Admitted)
-      → session_test o versions role fuel argument ≡ Ok a → fuel ≤ meant.fuel_limit
+      → session_test o versions role fuel argument ≡ Ok a → fuel ≤ most_fuel
   fuel_fits None versions role fuel argument a e = absurd (cc (e))
   fuel_fits (Some s) versions role fuel argument a e =
-      by (is_some s.running) (reads_state (role_in P role).kind) (nat_lt meant.fuel_limit fuel)
+      by (is_some s.running) (reads_state (role_in P role).kind) (nat_lt most_fuel fuel)
       (meant.argument_test hash P own ending (read_at P (role_in P role).argument argument) versions s role fuel) refl e
     where
-      by : (runs reads much : Bool) (read : Result meant.Admitted cause.Refusal) → nat_lt meant.fuel_limit fuel ≡ much
-          → (if runs then Err cause.CallRuns else (if not reads then Err cause.NoRole else (if much then Err cause.MuchFuel else read))) ≡ Ok a → fuel ≤ meant.fuel_limit
+      by : (runs reads much : Bool) (read : Result meant.Admitted cause.Refusal) → nat_lt most_fuel fuel ≡ much
+          → (if runs then Err cause.CallRuns else (if not reads then Err cause.NoRole else (if much then Err cause.MuchFuel else read))) ≡ Ok a → fuel ≤ most_fuel
       by true reads much read f e = absurd (cc (e))
       by false false much read f e = absurd (cc (e))
       by false true true read f e = absurd (cc (e))
@@ -55,7 +56,7 @@ module _ (hash : Hash) (P : Program) (own : List ℕ) (ending : ℕ → ℕ) whe
   call_runs server number role fuel argument s e runs =
       ap (λ o. session_test o (length server.shared.versions) role fuel argument) e
       ∙ ap (λ b. if b then Err cause.CallRuns else (if not (reads_state (role_in P role).kind) then Err cause.NoRole
-      else (if nat_lt meant.fuel_limit fuel then Err cause.MuchFuel
+      else (if nat_lt most_fuel fuel then Err cause.MuchFuel
       else meant.argument_test hash P own ending (read_at P (role_in P role).argument argument) (length server.shared.versions) s role fuel))) runs
 
   -- what is granted in the session that is found is admitted

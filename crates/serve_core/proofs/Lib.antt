@@ -4,6 +4,5 @@ pub mod Steps
 pub mod Calls
 -- start, hello, bye, go, answer: what each comes to
 pub mod Answering
--- for the crates above: the replies of `handle` are messages; a server whose sessions are ended behind a message was stopped at it
-pub mod Messages
+-- for the crates above: a server whose sessions are ended behind a message was stopped at it
 pub mod StoppedBehind

@@ -10,10 +10,6 @@ use Rattle.session_meaning.specs.Server
 use Rattle.session_meaning.specs.Server.{Session, Shared, Server as TheServer, Step, Heard, Hears, HearsBad, HearsEnd, Admitted, messages_limit}
 
 module _ (hash : Hash) (P : Program) (ending : ℕ → ℕ) where
-  round_whole : (ss : List (Numbered Session)) (shared : Shared) → RoundReaches hash P ending ss shared (Server.round hash P ending ss shared).shared
-  round_whole [] shared = refl
-  round_whole (s ∷ ss) shared = inr (round_whole ss (Server.turn hash P ending s.number s.value shared).shared)
-
   round_none : (ss : List (Numbered Session)) (shared : Shared) → RoundReaches hash P ending ss shared shared
   round_none [] shared = refl
   round_none (s ∷ ss) shared = inl refl

@@ -1,9 +1,7 @@
 //! The laws of the server, over whole runs: each is the contract of a function that does nothing.
-ghost use Rattle.session_meaning.specs.Begun.{ServersMayBegin};
+ghost use Rattle.session_meaning.specs.ServerLaws.{ServersMayBegin, LimitsHold, OnlyGoCommits, OnlyUpdatesCommit, ProofsAreHonest, RoundsAreOwn, TurnsByCalls, UpdatesCommit, VersionsAreCommitted, HistoryGoesOn, StopsKeepHistory};
 ghost use Rattle.session_meaning.specs.Isolation.{SessionsAreIsolated};
 ghost use Rattle.session_meaning.specs.ReplyLaws.{ProofsAreLimited, RepliesAreMessages};
-ghost use Rattle.session_meaning.specs.ServerLaws.{LimitsHold, OnlyGoCommits, OnlyUpdatesCommit, ProofsAreHonest, RoundsAreOwn, TurnsByCalls, UpdatesCommit, VersionsAreCommitted};
-ghost use Rattle.session_meaning.specs.Stopped.{HistoryGoesOn, StopsKeepHistory};
 
 /// The server, whatever is heard, and in whatever number of turns each call ends.
 ///

@@ -11,9 +11,9 @@ use Rattle.serve_core.specs.Serving.{Serves}
 use Rattle.serve_core.specs.declared.server.ServeCore.{ServeCore}
 use Rattle.wire_form.specs.declared.message.WriteStop.{WriteStop}
 use Rattle.wire_form.specs.declared.message.WriteStop.TheVariants as write
-use Rattle.link_ends.specs.Halts.{halt_of}
-use Rattle.link_ends.specs.declared.halt.Halt.{Halt}
-use Rattle.link_ends.specs.declared.halt.Halt.TheVariants as halt
+use Rattle.link_ends.specs.LinkStops.{link_stop_of}
+use Rattle.link_ends.specs.declared.link_stop.LinkStop.{LinkStop}
+use Rattle.link_ends.specs.declared.link_stop.LinkStop.TheVariants as link_stop
 use Rattle.serve_links.specs.Connections.{bytes_of}
 use Rattle.serve_links.specs.HistoriesInCode.{HasServed, HasSameCode, own_digest, program_served, step_of, turns_of}
 use Rattle.serve_links.specs.Messages.{ServerAnswers, AnswersPart, BreaksOff, ComesNext, CountsMessage, HearsNext, IsStoppedAt, ServesMessage, StaysServing, asks}
@@ -77,19 +77,19 @@ module _ (hash : Hash) (Kept : (told made : List RoleCall) → Type 0) {A G : Ty
     serves = part.3;
   }
 
-  message_broken : (bytes : List ℕ) (left' : Option (List ℕ)) (m : meant.Heard) (stop : Halt) (result : Result Bool Halt) → IsErrAnd result (λ e. e ≡ stop)
+  message_broken : (bytes : List ℕ) (left' : Option (List ℕ)) (m : meant.Heard) (stop : LinkStop) (result : Result Bool LinkStop) → IsErrAnd result (λ e. e ≡ stop)
       → ComesNext bytes left' m → ServerAnswers hash Kept old new server sent sent' m (Err stop) → ServesMessage hash Kept old new server sent sent' bytes left' result
   unfolding part_served
   message_broken bytes left' m stop (Ok on) handed next answers = absurd handed
   message_broken bytes left' m stop (Err e) handed next answers =
-      let P : Halt → Type 0 = λ e. ServesMessage hash Kept old new server sent sent' bytes left' (Err e) in subst P (sym handed) (by stop answers)
+      let P : LinkStop → Type 0 = λ e. ServesMessage hash Kept old new server sent sent' bytes left' (Err e) in subst P (sym handed) (by stop answers)
     where
-      by : (stop : Halt) → ServerAnswers hash Kept old new server sent sent' m (Err stop) → ServesMessage hash Kept old new server sent sent' bytes left' (Err stop)
-      by halt.LinkFault part = part_served bytes left' m next part
-      by halt.Stopped (inl all) =
+      by : (stop : LinkStop) → ServerAnswers hash Kept old new server sent sent' m (Err stop) → ServesMessage hash Kept old new server sent sent' bytes left' (Err stop)
+      by link_stop.LinkFault part = part_served bytes left' m next part
+      by link_stop.Stopped (inl all) =
           let broken = part_served bytes left' m next all.0 in
           record { taken = broken.taken; takes = broken.takes; out = broken.out; behind = _; sends = broken.sends; served = (broken.heard, broken.broken, inl refl, all.1); serves = broken.serves }
-      by halt.Stopped (inr stopped) = record {
+      by link_stop.Stopped (inr stopped) = record {
         taken = next.0;
         takes = next.1;
         out = [];
@@ -101,23 +101,23 @@ module _ (hash : Hash) (Kept : (told made : List RoleCall) → Type 0) {A G : Ty
 
 -- What a message comes to, by the error.
 module _ (hash : Hash) (Kept : (told made : List RoleCall) → Type 0) {A G : Type 0} (old new : ServeCore A G) (server : Server) (sent sent' : Option (List ℕ)) (m : meant.Heard) where
-  abbrev Comes : Halt → Type 0
+  abbrev Comes : LinkStop → Type 0
   Comes stop = ServerAnswers hash Kept old new server sent sent' m (Err stop)
 
   -- the server was stopped at it
-  pub stops : (result : Result Bool Halt) → IsErrAnd result (λ e. e ≡ halt.Stopped) → IsStoppedAt hash Kept old new server sent sent' m → ServerAnswers hash Kept old new server sent sent' m result
+  pub stops : (result : Result Bool LinkStop) → IsErrAnd result (λ e. e ≡ link_stop.Stopped) → IsStoppedAt hash Kept old new server sent sent' m → ServerAnswers hash Kept old new server sent sent' m result
   stops (Ok closing) handed stopped = absurd handed
   stops (Err e) handed stopped = subst Comes (sym handed) (inr stopped)
 
   -- or a front of its replies was sent
-  pub part_sent : (stop : WriteStop) (result : Result Bool Halt) → IsErrAnd result (λ e. e ≡ halt_of stop)
+  pub part_sent : (stop : WriteStop) (result : Result Bool LinkStop) → IsErrAnd result (λ e. e ≡ link_stop_of stop)
       → (let step = step_of hash old server m in
       ((n : ℕ) × (n < length (bytes_of step.replies)) × (sent' ≡ append_known sent (take n (bytes_of step.replies))))
       → Serves hash new step.server → Kept step.server.shared.commits step.server.shared.commits → ServerAnswers hash Kept old new server sent sent' m result)
   part_sent stop (Ok closing) handed part serves kept = absurd handed
   part_sent stop (Err e) handed part serves kept = subst Comes (sym handed) (by stop)
     where
-      by : (stop : WriteStop) → Comes (halt_of stop)
+      by : (stop : WriteStop) → Comes (link_stop_of stop)
       by write.LinkFault = (part.0, (let less = part.1 in omega (arith, less)), part.2, serves)
       by write.NoMemory = inl ((part.0, (let less = part.1 in omega (arith, less)), part.2, serves), kept)
 
@@ -131,7 +131,7 @@ module _ (hash : Hash) (Kept : (told made : List RoleCall) → Type 0) {A G : Ty
       let OfOn : Bool → Type 0 = λ on. ServesMessage hash Kept old new server sent0 sent2 bytes left2 (Ok on) in
       subst OfOn (ap (λ b. b && not closing) is ∙ sym test) (message_served hash Kept old new server sent0 sent2 bytes left2 m closing (subst OfLeft (sym left) next) (subst OfSent same answers))
 
-  pub broken_on : (stop : Halt) (result : Result Bool Halt) → IsErrAnd result (λ e. e ≡ stop) → sent1 ≡ sent0 → left2 ≡ left1 → ComesNext bytes left1 m
+  pub broken_on : (stop : LinkStop) (result : Result Bool LinkStop) → IsErrAnd result (λ e. e ≡ stop) → sent1 ≡ sent0 → left2 ≡ left1 → ComesNext bytes left1 m
       → ServerAnswers hash Kept old new server sent1 sent2 m (Err stop) → ServesMessage hash Kept old new server sent0 sent2 bytes left2 result
   broken_on stop result handed same left next answers =
       let OfSent : Option (List ℕ) → Type 0 = λ w. ServerAnswers hash Kept old new server w sent2 m (Err stop) in
@@ -139,16 +139,16 @@ module _ (hash : Hash) (Kept : (told made : List RoleCall) → Type 0) {A G : Ty
       message_broken hash Kept old new server sent0 sent2 bytes left2 m stop result handed (subst OfLeft (sym left) next) (subst OfSent same answers)
 
 -- no message was read
-pub unread : (hash : Hash) (Kept : (told made : List RoleCall) → Type 0) {A G : Type 0} (core : ServeCore A G) (server : Server) (sent sent' : Option (List ℕ)) (bytes : List ℕ) (left' : Option (List ℕ)) (stop : Halt)
-    (result : Result Bool Halt) → IsErrAnd result (λ e. e ≡ stop) → sent' ≡ sent → HearsNext bytes left' (Err stop) → Kept server.shared.commits server.shared.commits
+pub unread : (hash : Hash) (Kept : (told made : List RoleCall) → Type 0) {A G : Type 0} (core : ServeCore A G) (server : Server) (sent sent' : Option (List ℕ)) (bytes : List ℕ) (left' : Option (List ℕ)) (stop : LinkStop)
+    (result : Result Bool LinkStop) → IsErrAnd result (λ e. e ≡ stop) → sent' ≡ sent → HearsNext bytes left' (Err stop) → Kept server.shared.commits server.shared.commits
     → Serves hash core server
     → ServesMessage hash Kept core core server sent sent' bytes left' result
 unread hash Kept core server sent sent' bytes left' stop (Ok on) handed same hears kept serves = absurd handed
 unread hash Kept core server sent sent' bytes left' stop (Err e) handed same hears kept serves =
-    let P : Halt → Type 0 = λ e. ServesMessage hash Kept core core server sent sent' bytes left' (Err e) in subst P (sym handed) (by stop hears)
+    let P : LinkStop → Type 0 = λ e. ServesMessage hash Kept core core server sent sent' bytes left' (Err e) in subst P (sym handed) (by stop hears)
   where
-    by : (stop : Halt) → HearsNext bytes left' (Err stop) → ServesMessage hash Kept core core server sent sent' bytes left' (Err stop)
-    by halt.LinkFault hears = record {
+    by : (stop : LinkStop) → HearsNext bytes left' (Err stop) → ServesMessage hash Kept core core server sent sent' bytes left' (Err stop)
+    by link_stop.LinkFault hears = record {
       heard = [];
       taken = hears.0;
       takes = hears.1;
@@ -158,7 +158,7 @@ unread hash Kept core server sent sent' bytes left' stop (Err e) handed same hea
       broken = none_heard hash (program_served core) (own_digest core) (turns_of core) server bytes;
       serves = serves;
     }
-    by halt.Stopped hears = record {
+    by link_stop.Stopped hears = record {
       taken = hears.0;
       takes = hears.1;
       out = [];
@@ -173,16 +173,16 @@ module _ (hash : Hash) (Kept : (told made : List RoleCall) → Type 0) {A G : Ty
   pub stays_open : (closing : Bool) → ServerAnswers hash Kept old new h.server sent sent' m (Ok closing) → HasServed hash new
   stays_open closing answers = served_more hash old new same h.server m h.history is answers.2
 
-  pub stays_halted : {T : Type 0} (stop : Halt) (result : Result T Halt) → IsErrAnd result (λ e. e ≡ stop) → ServerAnswers hash Kept old new h.server sent sent' m (Err stop)
+  pub stays_halted : {T : Type 0} (stop : LinkStop) (result : Result T LinkStop) → IsErrAnd result (λ e. e ≡ stop) → ServerAnswers hash Kept old new h.server sent sent' m (Err stop)
       → StaysServing hash new result
   stays_halted stop (Ok on) handed answers = absurd handed
   stays_halted {T = T} stop (Err e) handed answers =
-      let P : Halt → Type 0 = λ e. StaysServing {T = T} hash new (Err e) in subst P (sym handed) (by stop answers)
+      let P : LinkStop → Type 0 = λ e. StaysServing {T = T} hash new (Err e) in subst P (sym handed) (by stop answers)
     where
-      by : (stop : Halt) → ServerAnswers hash Kept old new h.server sent sent' m (Err stop) → StaysServing {T = T} hash new (Err stop)
-      by halt.LinkFault part = served_more hash old new same h.server m h.history is part.3
-      by halt.Stopped (inl all) = ((step_of hash old h.server m).server, all.0.3)
-      by halt.Stopped (inr stopped) = (stopped.1.0, stopped.1.2)
+      by : (stop : LinkStop) → ServerAnswers hash Kept old new h.server sent sent' m (Err stop) → StaysServing {T = T} hash new (Err stop)
+      by link_stop.LinkFault part = served_more hash old new same h.server m h.history is part.3
+      by link_stop.Stopped (inl all) = ((step_of hash old h.server m).server, all.0.3)
+      by link_stop.Stopped (inr stopped) = (stopped.1.0, stopped.1.2)
 
   pub counts : (closing b on : Bool) → on ≡ b && not closing → asks m ≡ b → ServerAnswers hash Kept old new h.server sent sent' m (Ok closing) → CountsMessage old.heard new.heard (Ok on)
   counts closing b on test asked answers =

@@ -13,8 +13,8 @@ use Rattle.serve_core.specs.Serving.{Serves}
 use Rattle.serve_core.specs.declared.server.ServeCore.{ServeCore}
 use Rattle.link_ends.specs.declared.end.ConnectionEnd.{ConnectionEnd}
 use Rattle.link_ends.specs.declared.end.ConnectionEnd.TheVariants as connection
-use Rattle.link_ends.specs.declared.halt.Halt.{Halt}
-use Rattle.link_ends.specs.declared.halt.Halt.TheVariants as halt
+use Rattle.link_ends.specs.declared.link_stop.LinkStop.{LinkStop}
+use Rattle.link_ends.specs.declared.link_stop.LinkStop.TheVariants as link_stop
 use Rattle.serve_links.specs.Ends.{EndKeeperCause, KeepsAtEnd}
 use Rattle.serve_links.specs.HistoriesInCode.{own_digest, program_served, step_of, turns_of}
 use Rattle.serve_links.specs.Messages.{StopCause}
@@ -66,9 +66,9 @@ pub failed_then : (a b c : ℕ) (x y z : Bool) → HasStayed a b x y → MayHave
 failed_then a b c x y z first (inl stayed) = inl (stayed_twice a b c x y z first stayed)
 failed_then a b c x y z first (inr failed) = inr (subst (λ n. Rose n c) first.0 failed.0, failed.1)
 
--- at a halt
-pub stayed_at_fault : (a b : ℕ) (x y : Bool) (stop : Halt) → stop ≡ halt.LinkFault → StopCause {T = Bool} a b x y (Err stop) → HasStayed a b x y
-stayed_at_fault a b x y stop is cause = let Of : Halt → Type 0 = λ stop. StopCause {T = Bool} a b x y (Err stop) in subst Of is cause
+-- at a stop
+pub stayed_at_fault : (a b : ℕ) (x y : Bool) (stop : LinkStop) → stop ≡ link_stop.LinkFault → StopCause {T = Bool} a b x y (Err stop) → HasStayed a b x y
+stayed_at_fault a b x y stop is cause = let Of : LinkStop → Type 0 = λ stop. StopCause {T = Bool} a b x y (Err stop) in subst Of is cause
 
-pub failed_at_stop : (a b : ℕ) (x y : Bool) (stop : Halt) → stop ≡ halt.Stopped → StopCause {T = Bool} a b x y (Err stop) → MayHaveFailed a b x y
-failed_at_stop a b x y stop is cause = let Of : Halt → Type 0 = λ stop. StopCause {T = Bool} a b x y (Err stop) in subst Of is cause
+pub failed_at_stop : (a b : ℕ) (x y : Bool) (stop : LinkStop) → stop ≡ link_stop.Stopped → StopCause {T = Bool} a b x y (Err stop) → MayHaveFailed a b x y
+failed_at_stop a b x y stop is cause = let Of : LinkStop → Type 0 = λ stop. StopCause {T = Bool} a b x y (Err stop) in subst Of is cause

@@ -7,8 +7,8 @@ use Rattle.session_turns.specs.Rows.{AreAlike}
 use Rattle.session_turns.specs.Sharing.{IsCommit}
 use Rattle.session_turns.specs.declared.commit.Commit.{Commit}
 use Rattle.session_turns.proofs.Rows.{alike_length}
-use Rattle.link_ends.specs.declared.halt.Halt.{Halt}
-use Rattle.link_ends.specs.declared.halt.Halt.TheVariants as halt
+use Rattle.link_ends.specs.declared.link_stop.LinkStop.{LinkStop}
+use Rattle.link_ends.specs.declared.link_stop.LinkStop.TheVariants as link_stop
 use Rattle.serve_links.specs.Messages.{StillKeeps}
 use Rattle.serve_links.proofs.Growing.{same_front}
 
@@ -103,11 +103,11 @@ kept_whole Keeps (Ok done) before commits well on = on
 kept_whole Keeps (Err stop) before commits well on = absurd (cc (well))
 
 -- all are still kept at a link fault
-pub still_kept_fault : (Kept : Type 0) (stop : Halt) → stop ≡ halt.LinkFault → StillKeeps {T = Bool} Kept (Err stop) → Kept
-still_kept_fault Kept stop is keeps = let Of : Halt → Type 0 = λ stop. StillKeeps {T = Bool} Kept (Err stop) in subst Of is keeps
+pub still_kept_fault : (Kept : Type 0) (stop : LinkStop) → stop ≡ link_stop.LinkFault → StillKeeps {T = Bool} Kept (Err stop) → Kept
+still_kept_fault Kept stop is keeps = let Of : LinkStop → Type 0 = λ stop. StillKeeps {T = Bool} Kept (Err stop) in subst Of is keeps
 
 -- what is kept is so at any end
-pub still_kept : (Kept : Type 0) (result : Result Bool Halt) → Kept → StillKeeps {T = Bool} Kept result
+pub still_kept : (Kept : Type 0) (result : Result Bool LinkStop) → Kept → StillKeeps {T = Bool} Kept result
 still_kept Kept (Ok done) keeps = keeps
-still_kept Kept (Err halt.LinkFault) keeps = keeps
-still_kept Kept (Err halt.Stopped) keeps = tt
+still_kept Kept (Err link_stop.LinkFault) keeps = keeps
+still_kept Kept (Err link_stop.Stopped) keeps = tt

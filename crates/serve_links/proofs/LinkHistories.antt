@@ -3,10 +3,9 @@ use Rattle.std.proofs.Common.{inl, inr, ℕ, Bool, List, [], ◌∷◌, sym, sub
 use Rattle.core_terms.specs.Formats.{Hash}
 use Rattle.core_terms.specs.Terms.{Program}
 use Rattle.lam_outside.specs.Links.{Linked}
-use Rattle.session_meaning.specs.Connections.{ConnectionsAreHeard}
+use Rattle.session_meaning.specs.ServerLaws.{ConnectionsAreHeard, HistoryGoesOn, StopsKeepHistory}
 use Rattle.session_meaning.specs.Messages.{messages, request_of}
 use Rattle.session_meaning.specs.Server.{Server as TheServer, Heard, HearsEnd, server_after}
-use Rattle.session_meaning.specs.Stopped.{HistoryGoesOn, StopsKeepHistory}
 use Rattle.link_ends.specs.MoreLinks.{bytes_on}
 use Rattle.link_ends.specs.declared.end.ConnectionEnd.{ConnectionEnd}
 use Rattle.link_ends.specs.declared.end.ConnectionEnd.TheVariants as connection

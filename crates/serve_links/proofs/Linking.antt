@@ -17,7 +17,7 @@ use Rattle.session_meaning.specs.Server.{Server, last_turn}
 use Rattle.wire_form.specs.MovedBytes.{Moves}
 use Rattle.serve_core.specs.Serving.{Serves}
 use Rattle.serve_core.specs.declared.server.ServeCore.{ServeCore}
-use Rattle.link_ends.specs.declared.halt.Halt.{Halt}
+use Rattle.link_ends.specs.declared.link_stop.LinkStop.{LinkStop}
 use Rattle.link_ends.specs.declared.end.ConnectionEnd.{ConnectionEnd}
 use Rattle.link_ends.specs.declared.end.ConnectionEnd.TheVariants as connection
 use Rattle.link_ends.specs.MoreLinks.{bytes_on}
@@ -28,7 +28,7 @@ use Rattle.serve_links.specs.Connections.{AnyKept, IsServed}
 use Rattle.serve_links.specs.HistoriesInCode.{HasSameCode, own_digest, program_served, turns_of}
 use Rattle.serve_links.specs.Messages.{Ends}
 use Rattle.serve_links.specs.Prompt.{IsPrompt}
-use Rattle.serve_links.specs.ServedLinks.{AreServed, AreServedInPart, IsLinkServed, IsServedOn}
+use Rattle.serve_links.specs.ServedLinks.{AreServed, IsLinkServed, IsServedOn}
 use Rattle.serve_links.specs.ServedLinksInCode.{AreCounted, AreMoreInPart, AreMoreServed, IsOneServed, IsOneWhole, ServesNext}
 
 module _ (hash : Hash) (Kept : (told made : List RoleCall) → Type 0) {A G : Type 0} (old new : ServeCore A G) (server : Server) (port : ℕ) where
@@ -107,19 +107,7 @@ module _ (hash : Hash) (P : Program) (own : List ℕ) (ending : ℕ → ℕ) whe
     are.5,
   )
 
-  -- of links that were served in part too
-  pub parts_so : (Kept : (told made : List RoleCall) → Type 0) (server : Server) (links : List Linked) (behind : Server)
-      → AreServedInPart hash P own ending Kept server links behind → AreServedInPart hash P own ending AnyKept server links behind
-  parts_so Kept server links behind are = record {
-    before = are.before;
-    last = are.last;
-    all = are.all;
-    faulted = are.faulted;
-    next = are.next;
-    served = links_so Kept AnyKept server are.before are.faulted are.next are.served;
-    broken = record { served = (are.broken.served.0, are.broken.served.1, are.broken.served.2, tt); prompt = are.broken.prompt };
-  }
-
+  -- one more link behind those that were served
   pub all_served : (links : List Linked) (link : Linked) (server next behind : Server) (faulted fault : Bool) → AreServed hash P own ending AnyKept server links faulted next
       → IsLinkServed hash P own ending AnyKept next link fault behind → AreServed hash P own ending AnyKept server (links ++ link ∷ []) (faulted || fault) behind
   all_served [] link server next behind faulted fault are one =
@@ -207,10 +195,10 @@ module _ (hash : Hash) (Kept : (told made : List RoleCall) → Type 0) {A G : Ty
       }
 
 -- what the next link's result says, where it is known
-pub next_at : (hash : Hash) (Kept : (told made : List RoleCall) → Type 0) {A G : Type 0} (old new : ServeCore A G) (server : Server) (port : ℕ) (links links' : Option (List Linked)) (r known : Result Bool Halt) → r ≡ known
+pub next_at : (hash : Hash) (Kept : (told made : List RoleCall) → Type 0) {A G : Type 0} (old new : ServeCore A G) (server : Server) (port : ℕ) (links links' : Option (List Linked)) (r known : Result Bool LinkStop) → r ≡ known
     → ServesNext hash Kept old new server port links links' r → ServesNext hash Kept old new server port links links' known
 next_at hash Kept old new server port links links' r known is serves =
-    let Of : Result Bool Halt → Type 0 = λ r. ServesNext hash Kept old new server port links links' r in subst Of is serves
+    let Of : Result Bool LinkStop → Type 0 = λ r. ServesNext hash Kept old new server port links links' r in subst Of is serves
 
 -- those so far, and whatever is said of how commits are kept
 pub more_so : (hash : Hash) (Kept Also : (told made : List RoleCall) → Type 0) {A G : Type 0} (old new : ServeCore A G) (server : Server) (port : ℕ) (links : Option (List Linked))

@@ -12,8 +12,8 @@ use Rattle.serve_core.specs.Serving.{Serves}
 use Rattle.serve_core.specs.declared.server.ServeCore.{ServeCore}
 use Rattle.link_ends.specs.declared.end.ConnectionEnd.{ConnectionEnd}
 use Rattle.link_ends.specs.declared.end.ConnectionEnd.TheVariants.{Over, LinkFault, Stopped}
-use Rattle.link_ends.specs.declared.halt.Halt.{Halt}
-use Rattle.link_ends.specs.declared.halt.Halt.TheVariants as halt
+use Rattle.link_ends.specs.declared.link_stop.LinkStop.{LinkStop}
+use Rattle.link_ends.specs.declared.link_stop.LinkStop.TheVariants as link_stop
 use Rattle.serve_links.specs.Connections.{IsServed, bytes_of, left_by_end}
 use Rattle.serve_links.specs.Ends.{IsBroken, StaysServer}
 use Rattle.serve_links.specs.HistoriesInCode.{HasSameCode, HasServed, own_digest, program_served, step_of, turns_of}
@@ -46,8 +46,8 @@ module _ (hash : Hash) {A G : Type 0} where
   stays_at_end old new same h ended LinkFault = served_more hash old new same h.server HearsEnd h.history tt (ended h.server h.serves)
   stays_at_end old new same h ended Stopped = ((step_of hash old h.server HearsEnd).server, ended h.server h.serves)
 
-  pub stays_halted_fault : (core : ServeCore A G) (stop : Halt) → stop ≡ halt.LinkFault → StaysServing {T = Bool} hash core (Err stop) → HasServed hash core
-  stays_halted_fault core stop is stays = let Of : Halt → Type 0 = λ stop. StaysServing {T = Bool} hash core (Err stop) in subst Of is stays
+  pub stays_halted_fault : (core : ServeCore A G) (stop : LinkStop) → stop ≡ link_stop.LinkFault → StaysServing {T = Bool} hash core (Err stop) → HasServed hash core
+  stays_halted_fault core stop is stays = let Of : LinkStop → Type 0 = λ stop. StaysServing {T = Bool} hash core (Err stop) in subst Of is stays
 
   pub code_more : (old now new : ServeCore A G) → HasSameCode old now → HasSameCode now new → HasSameCode old new
   code_more old now new first more = record { code = more.code ∙ first.code; slice = more.slice ∙ first.slice }
@@ -69,10 +69,10 @@ module _ (hash : Hash) (Kept : (told made : List RoleCall) → Type 0) {A G : Ty
         → IsServedBy hash Kept old.code old.slice server bytes (taken ++ further) (out ++ more) end last
 
   -- what a message's result says, where it is known
-  pub served_at : (old new : ServeCore A G) (server : Server) (sent sent' : Option (List ℕ)) (bytes : List ℕ) (left' : Option (List ℕ)) (r known : Result Bool Halt) → r ≡ known
+  pub served_at : (old new : ServeCore A G) (server : Server) (sent sent' : Option (List ℕ)) (bytes : List ℕ) (left' : Option (List ℕ)) (r known : Result Bool LinkStop) → r ≡ known
       → ServesMessage hash Kept old new server sent sent' bytes left' r → ServesMessage hash Kept old new server sent sent' bytes left' known
   served_at old new server sent sent' bytes left' r known is served =
-      let Of : Result Bool Halt → Type 0 = λ r. ServesMessage hash Kept old new server sent sent' bytes left' r in subst Of is served
+      let Of : Result Bool LinkStop → Type 0 = λ r. ServesMessage hash Kept old new server sent sent' bytes left' r in subst Of is served
 
   pub at_first : (core : ServeCore A G) (server : Server) (sent : Option (List ℕ)) (bytes : List ℕ) (left : Option (List ℕ)) → left ≡ Some bytes → Serves hash core server
       → IsSoFar core core server sent sent bytes left

@@ -20,7 +20,7 @@ use Rattle.serve_core.specs.Serving.{Serves}
 use Rattle.serve_core.specs.declared.heard.Heard.TheVariants as heard
 use Rattle.serve_core.specs.declared.server.ServeCore.{ServeCore}
 use Rattle.link_ends.specs.declared.end.ConnectionEnd.TheVariants.{Over, Stopped}
-use Rattle.link_ends.specs.declared.halt.Halt.TheVariants as halt
+use Rattle.link_ends.specs.declared.link_stop.LinkStop.TheVariants as link_stop
 use Rattle.serve_links.specs.Connections.{IsBrokenOff, IsCutAt, bytes_of}
 use Rattle.serve_links.specs.Histories.{HasHistory}
 use Rattle.serve_links.specs.HistoriesInCode.{HasSameCode, HasServed, own_digest, program_served, step_of, turns_of}
@@ -44,7 +44,7 @@ comes_next = (0 ∷ 0 ∷ 0 ∷ 1 ∷ 9 ∷ [], (bye_bytes, refl, refl), (BadMes
 
 -- Where the link failed no message stood whole in what was taken; where it was stopped any front may have been.
 pub heard_next : HearsNext (0 ∷ 0 ∷ 0 ∷ 1 ∷ 9 ∷ bye_bytes) (Some bye_bytes) (Ok heard.Bad)
-    × HearsNext (0 ∷ 0 ∷ bye_bytes) (Some bye_bytes) (Err halt.LinkFault) × HearsNext (hello_bytes ++ bye_bytes) (Some bye_bytes) (Err halt.Stopped)
+    × HearsNext (0 ∷ 0 ∷ bye_bytes) (Some bye_bytes) (Err link_stop.LinkFault) × HearsNext (hello_bytes ++ bye_bytes) (Some bye_bytes) (Err link_stop.Stopped)
 heard_next = (comes_next, (0 ∷ 0 ∷ [], (bye_bytes, refl, refl), refl), (hello_bytes, (bye_bytes, refl, refl)))
 
 -- A message is waited for where none can be read of what was taken.
@@ -62,7 +62,7 @@ last_counted = (refl, lit< tt)
 pub one_too_many : CountsMessage 1000000 1000001 (Ok true) → ⊥
 one_too_many counts = let k : 1000000 < 1000000 = counts.1 in omega (arith, k)
 
-pub others_uncounted : CountsMessage 9 9 (Ok false) × CountsMessage 9 9 (Err halt.LinkFault)
+pub others_uncounted : CountsMessage 9 9 (Ok false) × CountsMessage 9 9 (Err link_stop.LinkFault)
 others_uncounted = (tt, tt)
 
 -- ANSWERS
@@ -81,23 +81,23 @@ module _ (hash : Hash) (Kept : (told made : List RoleCall) → Type 0) {A G : Ty
   pub answers_whole : Serves hash new (step_of hash old server m).server → AnswersPart hash Kept old new server (Some []) (Some (take (length told) told)) m
   answers_whole serves = (length told, omega arith, refl, serves)
 
-  pub answers_fault : (sent sent' : Option (List ℕ)) → AnswersPart hash Kept old new server sent sent' m → ServerAnswers hash Kept old new server sent sent' m (Err halt.LinkFault)
+  pub answers_fault : (sent sent' : Option (List ℕ)) → AnswersPart hash Kept old new server sent sent' m → ServerAnswers hash Kept old new server sent sent' m (Err link_stop.LinkFault)
   answers_fault sent sent' part = part
 
   -- where it was stopped then, all commits are kept
   pub answers_kept : (sent sent' : Option (List ℕ)) → AnswersPart hash Kept old new server sent sent' m
       → Kept (step_of hash old server m).server.shared.commits (step_of hash old server m).server.shared.commits
-      → AnswersKept hash Kept old new server sent sent' m × ServerAnswers hash Kept old new server sent sent' m (Err halt.Stopped)
+      → AnswersKept hash Kept old new server sent sent' m × ServerAnswers hash Kept old new server sent sent' m (Err link_stop.Stopped)
   answers_kept sent sent' part kept = ((part, kept), inl (part, kept))
 
   -- or it was stopped at it, and nothing was sent
   pub stopped : (sent : Option (List ℕ)) (behind : Server) → IsStopped hash (program_served old) (turns_of old) server m behind → Serves hash new behind
-      → Kept server.shared.commits behind.shared.commits → IsStoppedAt hash Kept old new server sent sent m × ServerAnswers hash Kept old new server sent sent m (Err halt.Stopped)
+      → Kept server.shared.commits behind.shared.commits → IsStoppedAt hash Kept old new server sent sent m × ServerAnswers hash Kept old new server sent sent m (Err link_stop.Stopped)
   stopped sent behind is serves kept = ((refl, (behind, is, serves, kept)), inr (refl, (behind, is, serves, kept)))
 
 -- it isn't stopped with commits that aren't kept so
 pub kept_where_stopped : (hash : Hash) {A G : Type 0} (old new : ServeCore A G) (server : Server) (m : meant.Heard) (sent sent' : Option (List ℕ))
-    → ServerAnswers hash (λ told made. ⊥) old new server sent sent' m (Err halt.Stopped) → ⊥
+    → ServerAnswers hash (λ told made. ⊥) old new server sent sent' m (Err link_stop.Stopped) → ⊥
 kept_where_stopped hash old new server m sent sent' (inl answers) = answers.1
 kept_where_stopped hash old new server m sent sent' (inr stopped) = stopped.1.3
 
@@ -125,20 +125,20 @@ module _ (hash : Hash) (Kept : (told made : List RoleCall) → Type 0) {A G : Ty
   ended bytes left ends = ends
 
   pub broken : (bytes : List ℕ) (left : Option (List ℕ)) → BreaksOff hash Kept old new server sent sent' bytes left
-      → ServesMessage hash Kept old new server sent sent' bytes left (Err halt.LinkFault)
+      → ServesMessage hash Kept old new server sent sent' bytes left (Err link_stop.LinkFault)
   broken bytes left breaks = breaks
 
   pub lacking : (bytes : List ℕ) (left : Option (List ℕ)) → Ends hash Kept old new server sent sent' bytes left Stopped
-      → ServesMessage hash Kept old new server sent sent' bytes left (Err halt.Stopped)
+      → ServesMessage hash Kept old new server sent sent' bytes left (Err link_stop.Stopped)
   lacking bytes left ends = ends
 
 -- HISTORIES
 -- a core that goes on has a history; one that was stopped is a server still
 pub goes_on_serving : (hash : Hash) {A G : Type 0} (core : ServeCore A G) → HasServed hash core
-    → StaysServing {T = Bool} hash core (Ok true) × StaysServing {T = Bool} hash core (Err halt.LinkFault)
+    → StaysServing {T = Bool} hash core (Ok true) × StaysServing {T = Bool} hash core (Err link_stop.LinkFault)
 goes_on_serving hash core served = (served, served)
 
-pub stays_serving : (hash : Hash) {A G : Type 0} (core : ServeCore A G) (server : Server) → Serves hash core server → StaysServing {T = Bool} hash core (Err halt.Stopped)
+pub stays_serving : (hash : Hash) {A G : Type 0} (core : ServeCore A G) (server : Server) → Serves hash core server → StaysServing {T = Bool} hash core (Err link_stop.Stopped)
 stays_serving hash core server serves = (server, serves)
 
 -- such a server began as it may, and heard messages

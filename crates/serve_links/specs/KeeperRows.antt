@@ -15,7 +15,7 @@ use Rattle.session_turns.specs.Sharing.{IsCommit}
 use Rattle.session_turns.specs.declared.commit.Commit.{Commit}
 use Rattle.link_ends.specs.declared.end.ConnectionEnd.TheVariants.{Over, LinkFault, Stopped}
 use Rattle.link_ends.specs.declared.end.ServingEnd.TheVariants as serving_end
-use Rattle.link_ends.specs.declared.halt.Halt.TheVariants as halt
+use Rattle.link_ends.specs.declared.link_stop.LinkStop.TheVariants as link_stop
 use Rattle.serve_links.specs.Connections.{IsServed}
 use Rattle.serve_links.specs.Ends.{EndKeeperCause, KeepsAtEnd}
 use Rattle.serve_links.specs.Messages.{StillKeeps, StopCause}
@@ -130,11 +130,11 @@ not_without_it (heard, broken, leaves, kept) = by heard broken.others broken.cam
     by (m ∷ n ∷ more) others came kept = let clash : [] ≡ n ∷ (more ++ others) = cc (came) in cc (clash)
 
 -- what is kept at the end of a message, of a link and of serving
-pub kept_at_end : (Kept : Type 0) → Kept → StillKeeps {T = Bool} Kept (Ok true) × StillKeeps {T = Bool} Kept (Err halt.LinkFault) × KeepsAtEnd Kept Over × KeepsAtEnd Kept LinkFault
+pub kept_at_end : (Kept : Type 0) → Kept → StillKeeps {T = Bool} Kept (Ok true) × StillKeeps {T = Bool} Kept (Err link_stop.LinkFault) × KeepsAtEnd Kept Over × KeepsAtEnd Kept LinkFault
     × KeepsBehind Kept (serving_end.Served true)
 kept_at_end Kept kept = (kept, kept, kept, kept, kept)
 
-pub unless_stopped : StillKeeps {T = Bool} ⊥ (Err halt.Stopped) × KeepsAtEnd ⊥ Stopped × KeepsBehind ⊥ serving_end.Stopped
+pub unless_stopped : StillKeeps {T = Bool} ⊥ (Err link_stop.Stopped) × KeepsAtEnd ⊥ Stopped × KeepsBehind ⊥ serving_end.Stopped
 unless_stopped = (tt, tt, tt)
 
 pub kept_otherwise : (StillKeeps {T = Bool} ⊥ (Ok true) → ⊥) × (KeepsAtEnd ⊥ Over → ⊥) × (KeepsAtEnd ⊥ LinkFault → ⊥) × (KeepsBehind ⊥ (serving_end.Served true) → ⊥)
@@ -154,8 +154,8 @@ pub stays : HasStayed 3 3 false false
 stays = (refl, refl)
 
 pub causes : (before now : ℕ) → Rose before now → KeepCause {T = Bool} {E = Bool} before before true true (Ok true) × KeepCause {T = Bool} {E = Bool} before now false true (Err true)
-    × StopCause {T = Bool} before before false false (Ok true) × StopCause {T = Bool} before before false false (Err halt.LinkFault)
-    × StopCause {T = Bool} before now false true (Err halt.Stopped)
+    × StopCause {T = Bool} before before false false (Ok true) × StopCause {T = Bool} before before false false (Err link_stop.LinkFault)
+    × StopCause {T = Bool} before now false true (Err link_stop.Stopped)
 causes before now rose = ((refl, refl), inr (rose, refl), (refl, refl), (refl, refl), inr (rose, refl))
 
 pub end_causes : (before now : ℕ) → Rose before now → EndKeeperCause before before false false Over × EndKeeperCause before before false false LinkFault × EndKeeperCause before now false true Stopped

@@ -15,8 +15,8 @@ use Rattle.serve_core.specs.declared.heard.Heard.{Heard}
 use Rattle.link_ends.specs.MoreLinks.{TakesBytes}
 use Rattle.link_ends.specs.declared.end.ConnectionEnd.{ConnectionEnd}
 use Rattle.link_ends.specs.declared.end.ConnectionEnd.TheVariants.{Over, Stopped}
-use Rattle.link_ends.specs.declared.halt.Halt.{Halt}
-use Rattle.link_ends.specs.declared.halt.Halt.TheVariants as halt
+use Rattle.link_ends.specs.declared.link_stop.LinkStop.{LinkStop}
+use Rattle.link_ends.specs.declared.link_stop.LinkStop.TheVariants as link_stop
 use Rattle.serve_links.specs.Connections.{IsBrokenOff, IsCutAt, IsServed, bytes_of, heard_in}
 use Rattle.serve_links.specs.HistoriesInCode.{HasServed, own_digest, program_served, step_of, turns_of}
 
@@ -41,34 +41,34 @@ abbrev pub ComesNext : List ℕ → Option (List ℕ) → meant.Heard → Type 0
 ComesNext bytes left' m = (taken : List ℕ) × TakesBytes bytes taken left' × IsHeardOf bytes taken m
 
 -- This is heard next. Where the link failed, no message stands whole in the bytes that were taken.
-abbrev pub HearsNext : List ℕ → Option (List ℕ) → Result Heard Halt → Type 0
+abbrev pub HearsNext : List ℕ → Option (List ℕ) → Result Heard LinkStop → Type 0
 HearsNext bytes left' (Ok heard) = ComesNext bytes left' (heard_meant heard)
-HearsNext bytes left' (Err halt.LinkFault) = (taken : List ℕ) × TakesBytes bytes taken left' × (heard_in taken ≡ meant.HearsEnd ∷ [])
-HearsNext bytes left' (Err halt.Stopped) = (taken : List ℕ) × TakesBytes bytes taken left'
+HearsNext bytes left' (Err link_stop.LinkFault) = (taken : List ℕ) × TakesBytes bytes taken left' × (heard_in taken ≡ meant.HearsEnd ∷ [])
+HearsNext bytes left' (Err link_stop.Stopped) = (taken : List ℕ) × TakesBytes bytes taken left'
 
 -- The core goes on as a server with a history, unless it was stopped: then it is a server still.
-abbrev pub StaysServing : {A G T : Type 0} → Hash → ServeCore A G → Result T Halt → Type 0
+abbrev pub StaysServing : {A G T : Type 0} → Hash → ServeCore A G → Result T LinkStop → Type 0
 StaysServing hash core (Ok done) = HasServed hash core
-StaysServing hash core (Err halt.LinkFault) = HasServed hash core
-StaysServing hash core (Err halt.Stopped) = (server : Server) × Serves hash core server
+StaysServing hash core (Err link_stop.LinkFault) = HasServed hash core
+StaysServing hash core (Err link_stop.Stopped) = (server : Server) × Serves hash core server
 
 -- a message that goes on is counted, and is within the limit
-abbrev pub CountsMessage : ℕ → ℕ → Result Bool Halt → Type 0
+abbrev pub CountsMessage : ℕ → ℕ → Result Bool LinkStop → Type 0
 CountsMessage before now (Ok true) = (now ≡ before + 1) × (before < messages_limit)
 CountsMessage before now (Ok false) = ⊤
 CountsMessage before now (Err stop) = ⊤
 
 -- what is kept at the end of a message, unless it was stopped
-abbrev pub StillKeeps : {T : Type 0} → Type 0 → Result T Halt → Type 0
+abbrev pub StillKeeps : {T : Type 0} → Type 0 → Result T LinkStop → Type 0
 StillKeeps Kept (Ok done) = Kept
-StillKeeps Kept (Err halt.LinkFault) = Kept
-StillKeeps Kept (Err halt.Stopped) = ⊤
+StillKeeps Kept (Err link_stop.LinkFault) = Kept
+StillKeeps Kept (Err link_stop.Stopped) = ⊤
 
 -- a keeper fails only where serving is stopped
-abbrev pub StopCause : {T : Type 0} → (faults faults' : ℕ) → (faulted faulted' : Bool) → Result T Halt → Type 0
+abbrev pub StopCause : {T : Type 0} → (faults faults' : ℕ) → (faulted faulted' : Bool) → Result T LinkStop → Type 0
 StopCause faults faults' faulted faulted' (Ok done) = HasStayed faults faults' faulted faulted'
-StopCause faults faults' faulted faulted' (Err halt.LinkFault) = HasStayed faults faults' faulted faulted'
-StopCause faults faults' faulted faulted' (Err halt.Stopped) = MayHaveFailed faults faults' faulted faulted'
+StopCause faults faults' faulted faulted' (Err link_stop.LinkFault) = HasStayed faults faults' faulted faulted'
+StopCause faults faults' faulted faulted' (Err link_stop.Stopped) = MayHaveFailed faults faults' faulted faulted'
 
 -- A core served this server, its commits were kept so where it was stopped, and what was sent grew.
 module _ (hash : Hash) (Kept : (told made : List RoleCall) → Type 0) {A G : Type 0} (old new : ServeCore A G) (server : Server) (sent sent' : Option (List ℕ)) where
@@ -90,12 +90,12 @@ module _ (hash : Hash) (Kept : (told made : List RoleCall) → Type 0) {A G : Ty
       × Kept server.shared.commits stopped.shared.commits)
 
   -- It was handled, and all its replies were sent, with the answer whether the server closes the connection; or a part of that.
-  abbrev pub ServerAnswers : meant.Heard → Result Bool Halt → Type 0
+  abbrev pub ServerAnswers : meant.Heard → Result Bool LinkStop → Type 0
   ServerAnswers m (Ok closing) =
       let step = step_of hash old server m in
       (sent' ≡ append_known sent (bytes_of step.replies)) × (closing ≡ step.closing) × Serves hash new step.server
-  ServerAnswers m (Err halt.LinkFault) = AnswersPart m
-  ServerAnswers m (Err halt.Stopped) = AnswersKept m ⊎ IsStoppedAt m
+  ServerAnswers m (Err link_stop.LinkFault) = AnswersPart m
+  ServerAnswers m (Err link_stop.Stopped) = AnswersKept m ⊎ IsStoppedAt m
 
   -- a request was heard of these bytes and answered, the connection goes on, and these bytes are left
   pub record ServingGoesOn (bytes : List ℕ) (left' : Option (List ℕ)) : Type 0 where
@@ -131,8 +131,8 @@ module _ (hash : Hash) (Kept : (told made : List RoleCall) → Type 0) {A G : Ty
     pub serves : Serves hash new (server_after hash (program_served old) (own_digest old) (turns_of old) server heard)
 
   -- A message of the connection was served: it goes on, or not.
-  abbrev pub ServesMessage : List ℕ → Option (List ℕ) → Result Bool Halt → Type 0
+  abbrev pub ServesMessage : List ℕ → Option (List ℕ) → Result Bool LinkStop → Type 0
   ServesMessage bytes left' (Ok true) = ServingGoesOn bytes left'
   ServesMessage bytes left' (Ok false) = Ends bytes left' Over
-  ServesMessage bytes left' (Err halt.LinkFault) = BreaksOff bytes left'
-  ServesMessage bytes left' (Err halt.Stopped) = Ends bytes left' Stopped
+  ServesMessage bytes left' (Err link_stop.LinkFault) = BreaksOff bytes left'
+  ServesMessage bytes left' (Err link_stop.Stopped) = Ends bytes left' Stopped

@@ -12,8 +12,8 @@ use Rattle.link_ends.specs.Ends.{is_fault}
 use Rattle.link_ends.specs.MoreLinks.{AreMore}
 use Rattle.link_ends.specs.declared.end.ConnectionEnd.{ConnectionEnd}
 use Rattle.link_ends.specs.declared.end.ConnectionEnd.TheVariants as connection
-use Rattle.link_ends.specs.declared.halt.Halt.{Halt}
-use Rattle.link_ends.specs.declared.halt.Halt.TheVariants as halt
+use Rattle.link_ends.specs.declared.link_stop.LinkStop.{LinkStop}
+use Rattle.link_ends.specs.declared.link_stop.LinkStop.TheVariants as link_stop
 use Rattle.link_ends.specs.declared.end.ServingEnd.{ServingEnd}
 use Rattle.link_ends.specs.declared.end.ServingEnd.TheVariants.{Served, Stopped}
 use Rattle.serve_links.specs.HistoriesInCode.{HasServed, own_digest, program_served, turns_of}
@@ -40,10 +40,10 @@ module _ (hash : Hash) (Kept : (told made : List RoleCall) → Type 0) {A G : Ty
     pub fault : faulted ≡ is_fault end
 
   -- so it is at an accepted link; where none was, the links and the core are the same
-  abbrev pub ServesNext : (links links' : Option (List Linked)) → Result Bool Halt → Type 0
+  abbrev pub ServesNext : (links links' : Option (List Linked)) → Result Bool LinkStop → Type 0
   ServesNext links links' (Ok faulted) = (after : List Linked) → links' ≡ Some after → IsOneWhole links after faulted
-  ServesNext links links' (Err halt.LinkFault) = (links' ≡ links) × (new ≡ old)
-  ServesNext links links' (Err halt.Stopped) = (after : List Linked) → links' ≡ Some after → IsOneServed links after connection.Stopped
+  ServesNext links links' (Err link_stop.LinkFault) = (links' ≡ links) × (new ≡ old)
+  ServesNext links links' (Err link_stop.Stopped) = (after : List Linked) → links' ≡ Some after → IsOneServed links after connection.Stopped
 
   -- there are so many more, and they were served
   pub record AreMoreServed (links : Option (List Linked)) (after : List Linked) (faulted : Bool) (count : ℕ) : Type 0 where

@@ -16,7 +16,7 @@ use Rattle.serve_core.specs.declared.server.ServeCore.{ServeCore}
 use Rattle.link_ends.specs.MoreLinks.{AreMore}
 use Rattle.link_ends.specs.declared.end.ConnectionEnd.{ConnectionEnd}
 use Rattle.link_ends.specs.declared.end.ConnectionEnd.TheVariants.{Over, LinkFault, Stopped}
-use Rattle.link_ends.specs.declared.halt.Halt.TheVariants as halt
+use Rattle.link_ends.specs.declared.link_stop.LinkStop.TheVariants as link_stop
 use Rattle.link_ends.specs.declared.end.ServingEnd.TheVariants as serving_end
 use Rattle.serve_links.specs.Connections.{AnyKept, GoOn, IsBrokenOff, IsCutAt, IsSentPart, IsServed, IsStoppedOn, LeavesStopped}
 use Rattle.serve_links.specs.Ends.{IsBroken, StaysServer}
@@ -251,10 +251,10 @@ module _ (hash : Hash) {A G : Type 0} (old new : ServeCore A G) (server : Server
   next_served faulted one = one
 
   pub next_stops : ((after : List Linked) → links' ≡ Some after → IsOneServed hash AnyKept old new server 4711 links after Stopped)
-      → ServesNext hash AnyKept old new server 4711 links links' (Err halt.Stopped)
+      → ServesNext hash AnyKept old new server 4711 links links' (Err link_stop.Stopped)
   next_stops one = one
 
-  pub none_accepted : ServesNext hash AnyKept old old server 4711 links links (Err halt.LinkFault)
+  pub none_accepted : ServesNext hash AnyKept old old server 4711 links links (Err link_stop.LinkFault)
   none_accepted = (refl, refl)
 
   pub links_served : (faulted : Bool) → ((after : List Linked) → links' ≡ Some after → AreCounted hash AnyKept old new server 4711 links after 9 faulted 0 0)

@@ -15,7 +15,7 @@ ghost use Rattle.lam_outside.specs.LinkSteps.{AtEachRead};
 use crate::message::serve_message;
 use core_terms::Hash32;
 use lam_outside::Link;
-use link_ends::{ConnectionEnd, Halt};
+use link_ends::{ConnectionEnd, LinkStop};
 use serve_core::{Heard, ServeCore};
 use session_turns::{Gate, Keeper};
 use std::alloc::Global;
@@ -54,8 +54,8 @@ pub fn serve_link<H: Hash32, G: Gate + Drop, K: Keeper, L: Link, R: Threads + Sy
         match serve_message(rt, alloc, core, keeper, link) {
             Ok(true) => {}
             Ok(false) => return ConnectionEnd::Over,
-            Err(Halt::LinkFault) => return end_at_fault(rt, core),
-            Err(Halt::Stopped) => return ConnectionEnd::Stopped,
+            Err(LinkStop::LinkFault) => return end_at_fault(rt, core),
+            Err(LinkStop::Stopped) => return ConnectionEnd::Stopped,
         }
     }
 }

@@ -3,7 +3,7 @@ ghost use Rattle.std.specs.Prelude.{◌≡◌, IfOk};
 ghost use Rattle.std.specs.Option.{ForSome};
 ghost use Rattle.session_meaning.specs.ReplyLaws.{IsHeard};
 ghost use Rattle.session_meaning.specs.Server.{Server};
-ghost use Rattle.link_ends.specs.Halts.{HaltCause};
+ghost use Rattle.link_ends.specs.LinkStops.{LinkStopCause};
 ghost use Rattle.serve_core.specs.Serving.{Serves, heard_meant};
 ghost use Rattle.serve_links.specs.HistoriesInCode.{HasSameCode, HasServed};
 ghost use Rattle.serve_links.specs.Messages.{ServerAnswers, CountsMessage, HearsNext, ServesMessage, StaysServing, StillKeeps, StopCause, asks};
@@ -15,7 +15,7 @@ ghost use Rattle.lam_outside.specs.LinkSteps.{AtEachRead};
 use crate::sending::send_replies;
 use core_terms::Hash32;
 use lam_outside::Link;
-use link_ends::Halt;
+use link_ends::LinkStop;
 use serve_core::{Heard, ServeCore};
 use session_turns::{Gate, Keeper};
 use std::alloc::Global;
@@ -23,14 +23,14 @@ use std::thread::Threads;
 use wire_form::{ReadStop, read_request};
 
 /// What the server hears next on a link. Where the link fails, no message stands whole in the bytes that were taken.
-fn next_heard<L: Link>(alloc: Global, link: &mut L) -> Result<Heard, Halt>
+fn next_heard<L: Link>(alloc: Global, link: &mut L) -> Result<Heard, LinkStop>
     ensures hears { ForSome (L.left link.old) (λ bytes. HearsNext bytes (L.left link.new) result) }
     ensures message { IfOk result (λ heard. IsHeard (heard_meant heard)) }
     ensures waits { ForSome (L.left link.old) (λ bytes. AtEachRead (WaitsForOne bytes (L.sent link.old)) (L.reads link.old) (L.reads link.new)) }
     ensures moves { Moves (L.given link.old) (L.left link.old) (L.given link.new) (L.left link.new) }
     ensures sent { L.sent link.new ≡ L.sent link.old }
     ensures beyond { L.beyond link.new ≡ L.beyond link.old }
-    ensures cause { HaltCause (L.faults link.old) (L.faults link.new) result }
+    ensures cause { LinkStopCause (L.faults link.old) (L.faults link.new) result }
 {
     match read_request(alloc, link) {
         Ok(request) => Ok(Heard::Request(request)),
@@ -38,8 +38,8 @@ fn next_heard<L: Link>(alloc: Global, link: &mut L) -> Result<Heard, Halt>
         Err(ReadStop::TooLong(_)) => Ok(Heard::Bad),
         Err(ReadStop::End) => Ok(Heard::End),
         Err(ReadStop::Cut) => Ok(Heard::End),
-        Err(ReadStop::LinkFault) => Err(Halt::LinkFault),
-        Err(ReadStop::NoMemory) => Err(Halt::Stopped),
+        Err(ReadStop::LinkFault) => Err(LinkStop::LinkFault),
+        Err(ReadStop::NoMemory) => Err(LinkStop::Stopped),
     }
 }
 
@@ -53,7 +53,7 @@ fn answer<H: Hash32, G: Gate + Drop, K: Keeper, L: Link, R: Threads + Sync>(
     keeper: &mut K,
     link: &mut L,
     heard: Heard,
-) -> Result<bool, Halt>
+) -> Result<bool, LinkStop>
     requires history { HasServed H.hash core.old }
     requires kept { (place : K.Place) × K.keeps keeper.old place core.old.shared.commits.items }
     requires message { IsHeard (heard_meant heard) }
@@ -67,12 +67,12 @@ fn answer<H: Hash32, G: Gate + Drop, K: Keeper, L: Link, R: Threads + Sync>(
     ensures given { L.given link.new ≡ L.given link.old }
     ensures left { L.left link.new ≡ L.left link.old }
     ensures beyond { L.beyond link.new ≡ L.beyond link.old }
-    ensures cause { HaltCause (L.faults link.old) (L.faults link.new) result }
+    ensures cause { LinkStopCause (L.faults link.old) (L.faults link.new) result }
 {
     let replies = core.handle(rt, heard)?;
     if keeper.keep(core.commits()).is_err() {
         core.end_sessions();
-        return Err(Halt::Stopped);
+        return Err(LinkStop::Stopped);
     }
     send_replies(alloc, link, &replies.list)?;
     Ok(replies.closing)
@@ -95,7 +95,7 @@ pub fn serve_message<H: Hash32, G: Gate + Drop, K: Keeper, L: Link, R: Threads +
     core: &mut ServeCore<H, G>,
     keeper: &mut K,
     link: &mut L,
-) -> Result<bool, Halt>
+) -> Result<bool, LinkStop>
     requires history { HasServed H.hash core.old }
     requires kept { (place : K.Place) × K.keeps keeper.old place core.old.shared.commits.items }
     ensures served { ForSome (L.left link.old) (λ bytes. (server : Server) (place : K.Place) → Serves H.hash core.old server → K.keeps keeper.old place core.old.shared.commits.items
@@ -109,7 +109,7 @@ pub fn serve_message<H: Hash32, G: Gate + Drop, K: Keeper, L: Link, R: Threads +
     ensures waits { ForSome (L.left link.old) (λ bytes. AtEachRead (WaitsForOne bytes (L.sent link.old)) (L.reads link.old) (L.reads link.new)) }
     ensures moves { Moves (L.given link.old) (L.left link.old) (L.given link.new) (L.left link.new) }
     ensures beyond { L.beyond link.new ≡ L.beyond link.old }
-    ensures cause { HaltCause (L.faults link.old) (L.faults link.new) result }
+    ensures cause { LinkStopCause (L.faults link.old) (L.faults link.new) result }
 {
     let heard = next_heard(alloc, link)?;
     let asks = is_request(&heard);

@@ -4,7 +4,7 @@ ghost use Rattle.std.specs.Option.{ForSome};
 ghost use Rattle.session_meaning.specs.Server.{Server};
 ghost use Rattle.lam_outside.specs.Links.{links_so_far};
 ghost use Rattle.link_ends.specs.EndCauses.{LinkCause, ServingCause};
-ghost use Rattle.link_ends.specs.Halts.{HaltCause};
+ghost use Rattle.link_ends.specs.LinkStops.{LinkStopCause};
 ghost use Rattle.serve_core.specs.Serving.{Serves};
 ghost use Rattle.serve_links.specs.HistoriesInCode.{HasSameCode, HasServed};
 ghost use Rattle.serve_links.specs.Messages.{StaysServing, StillKeeps, StopCause};
@@ -14,7 +14,7 @@ ghost use Rattle.session_turns.specs.Keepers.{KeepsBetween};
 use crate::connection::serve_link;
 use core_terms::Hash32;
 use lam_outside::Net;
-use link_ends::{ConnectionEnd, Halt, ServingEnd};
+use link_ends::{ConnectionEnd, LinkStop, ServingEnd};
 use serve_core::ServeCore;
 use session_turns::{Gate, Keeper};
 use std::alloc::Global;
@@ -59,8 +59,8 @@ pub fn serve_links<H: Hash32, G: Gate + Drop, K: Keeper, N: Net, R: Threads + Sy
                     link_fault = true;
                 }
             }
-            Err(Halt::LinkFault) => return ServingEnd::Served { link_fault: true },
-            Err(Halt::Stopped) => return ServingEnd::Stopped,
+            Err(LinkStop::LinkFault) => return ServingEnd::Served { link_fault: true },
+            Err(LinkStop::Stopped) => return ServingEnd::Stopped,
         }
     }
     ServingEnd::Served { link_fault }
@@ -76,7 +76,7 @@ fn serve_next<H: Hash32, G: Gate + Drop, K: Keeper, N: Net, R: Threads + Sync>(
     core: &mut ServeCore<H, G>,
     keeper: &mut K,
     net: &mut N,
-) -> Result<bool, Halt>
+) -> Result<bool, LinkStop>
     requires history { HasServed H.hash core.old }
     requires kept { (place : K.Place) × K.keeps keeper.old place core.old.shared.commits.items }
     ensures served { ForSome (N.listened net.old) (λ port. (server : Server) (place : K.Place) → Serves H.hash core.old server → K.keeps keeper.old place core.old.shared.commits.items
@@ -91,13 +91,13 @@ fn serve_next<H: Hash32, G: Gate + Drop, K: Keeper, N: Net, R: Threads + Sync>(
     ensures listened { N.listened net.new ≡ N.listened net.old }
     ensures listens { N.listen_faults net.new ≡ N.listen_faults net.old }
     ensures dials { N.dial_faults net.new ≡ N.dial_faults net.old }
-    ensures accepts { HaltCause (N.accept_faults net.old) (N.accept_faults net.new) result }
+    ensures accepts { LinkStopCause (N.accept_faults net.old) (N.accept_faults net.new) result }
     ensures cause { LinkCause (N.faults net.old) (N.faults net.new) result }
 {
     net.accept()?;
     match serve_link(rt, alloc, core, keeper, net) {
         ConnectionEnd::Over => Ok(false),
         ConnectionEnd::LinkFault => Ok(true),
-        ConnectionEnd::Stopped => Err(Halt::Stopped),
+        ConnectionEnd::Stopped => Err(LinkStop::Stopped),
     }
 }

@@ -15,7 +15,7 @@ use Rattle.session_meaning.specs.Server
 use Rattle.session_meaning.specs.Server.{Running, Session, Shared, Admitted, Server as TheServer, Step, Turned, Heard, Hears, HearsBad, HearsEnd, version_at, fits_message}
 use Rattle.session_meaning.specs.Within.{IsStateWithin, IsCallWithin}
 use Rattle.session_meaning.specs.ReplyLaws.{IsHeard}
-use Rattle.session_meaning.specs.Begun.{ServersMayBegin}
+use Rattle.session_meaning.specs.ServerLaws.{ServersMayBegin}
 use Rattle.session_meaning.proofs.TableFacts.{all_put, all_remove}
 use Rattle.session_meaning.proofs.Orderly.{call_ok}
 use Rattle.session_meaning.proofs.GoodCalls.{IsGood, IsCall, state_within}

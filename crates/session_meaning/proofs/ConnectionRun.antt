@@ -7,8 +7,8 @@ use Rattle.session_meaning.specs.Causes.{Refusal, NoMessage, refusal_cause}
 use Rattle.session_meaning.specs.Tables.{find}
 use Rattle.session_meaning.specs.Server
 use Rattle.session_meaning.specs.Server.{Session, Admitted, Server as TheServer, Step, Heard, Hears, HearsBad, HearsEnd, handle, server_after, replies_of}
-use Rattle.session_meaning.specs.ServerLaws.{OnlyGoCommits}
-use Rattle.session_meaning.specs.Connections.{Served, heard_stop, if_closing, served, ConnectionsAreHeard}
+use Rattle.session_meaning.specs.ServerLaws.{OnlyGoCommits, ConnectionsAreHeard}
+use Rattle.session_meaning.specs.Connections.{Served, heard_stop, if_closing, served}
 
 module _ (hash : Hash) (P : Program) (own : List ℕ) (ending : ℕ → ℕ) where
   -- a request but GO changes nothing that is shared, and no request closes the connection

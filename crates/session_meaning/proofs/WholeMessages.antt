@@ -166,12 +166,6 @@ module _ {A : Type 0} (of : ℕ → List ℕ → Body A) where
               (sym (ap u32_in front)) (rw g (ap (λ n. let y : Read A = Stops (TooLong n) in y) same)))
 
 -- the messages of bytes that begin with one that was read, whatever stands behind it
-pub reply_goes_on : (bytes : List ℕ) (r : Reply) (left : List ℕ) → read_message reply_of bytes ≡ Got r left
-    → (t : List ℕ) × (bytes ≡ t ++ left) × ((x : List ℕ) → messages reply_of (t ++ x) ≡ Then r (messages reply_of x))
-reply_goes_on bytes r left e =
-    let read = message_read reply_of bytes r left e in
-    (read.0, read.1, λ x. (messages_go_on (read.0 ++ x)).1 ∙ ap (λ (q : Read Reply). goes_on q (messages reply_of)) (read.2 x))
-
 pub request_goes_on : (bytes : List ℕ) (r : Request) (left : List ℕ) → read_message request_of bytes ≡ Got r left
     → (t : List ℕ) × (bytes ≡ t ++ left) × ((x : List ℕ) → messages request_of (t ++ x) ≡ Then r (messages request_of x))
 request_goes_on bytes r left e =

@@ -6,7 +6,8 @@ use Rattle.core_terms.specs.Values.{Value, UnitV, BoolV}
 use Rattle.core_terms.proofs.LawProofs.{first_format_is_format, typing_test_is_exact}
 use Rattle.ideal_meaning.specs.Examples.{toy, bool_program}
 use Rattle.ideal_meaning.specs.ExampleProofs.{toy_gives_32_bytes}
-use Rattle.session_meaning.specs.Begun.{IsBegun, ServersMayBegin}
+use Rattle.session_meaning.specs.Begun.{IsBegun}
+use Rattle.session_meaning.specs.ServerLaws.{ServersMayBegin}
 use Rattle.session_meaning.specs.Calls.{RoleCall}
 use Rattle.session_meaning.specs.HistoryRows.{flips, flipped, history}
 use Rattle.session_meaning.specs.MessageRows.{text_digest}

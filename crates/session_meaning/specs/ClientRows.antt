@@ -10,7 +10,7 @@ use Rattle.session_meaning.specs.Messages.{Hello, Call, Bye, Reply, Welcome, Pro
 use Rattle.session_meaning.specs.MessageFields.{read_reply}
 use Rattle.session_meaning.specs.Server.{last_turn, new_server}
 use Rattle.session_meaning.specs.Client.{Idle, Client, Event, Hellos, Calls, Byes, Hears, Forgets, Answer, Sends, TellsWelcome, Tells, TellsStale, TellsRefused, TellsEnded, StateFault, ArgumentFault, OutOfTurn, IsRejected, IsStranger, IsWrongReply, HasFailed, IsBroken, IsClosed, WantsMemory, waits, state_of, take_event, verdict_step, client_after, new_client}
-use Rattle.session_meaning.specs.ClientLaws.{told_calls}
+use Rattle.session_meaning.specs.ToldCalls.{told_calls}
 use Rattle.session_meaning.specs.Exchange.{Exchange, Move, Greets, Asks, Leaves, Goes, Takes, after_move, new_exchange}
 use Rattle.session_meaning.specs.MessageRows.{text_digest, hello_bytes, call_bytes, bye_bytes}
 

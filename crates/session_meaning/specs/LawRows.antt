@@ -9,7 +9,8 @@ use Rattle.ideal_meaning.specs.Examples.{toy, unit_program}
 use Rattle.session_meaning.specs.Messages.{Request, Hello, Call, Go, Bye, Welcome, Proof, Stale, Refused, Closed}
 use Rattle.session_meaning.specs.Server.{Step, Hears, HearsBad, HearsEnd, Heard, Server, last_turn, new_server}
 use Rattle.session_meaning.specs.Client.{Known, Asked, Greeting, Idle, Leaving, Calling, FailedBy, BrokenBy, Hellos, Calls, Byes, Forgets, Hears as HearsReply, Sends, TellsWelcome, Tells, TellsStale, TellsRefused, TellsEnded, StateFault, ArgumentFault, OutOfTurn, WantsMemory, IsRejected, IsStranger, IsWrongReply, HasFailed, IsBroken, IsClosed}
-use Rattle.session_meaning.specs.ClientLaws.{BeginsWith, HasBytes, lives}
+use Rattle.session_meaning.specs.ClientLaws.{HasBytes}
+use Rattle.session_meaning.specs.ToldCalls.{BeginsWith, lives}
 use Rattle.session_meaning.specs.Exchange.{Greets, Asks, Leaves, Goes, Takes, IsRefusedReply, IsTold, IsWellAnswered, MoveHasBytes}
 use Rattle.session_meaning.specs.Isolation.{IsQuietRun, StaysOpen, is_quiet}
 use Rattle.session_meaning.specs.ReplyLaws.{HasArgumentBytes, IsWithinMessages, IsHeard}

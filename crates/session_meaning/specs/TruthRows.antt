@@ -10,7 +10,8 @@ use Rattle.ideal_meaning.specs.Examples.{toy, bool_program}
 use Rattle.ideal_meaning.specs.ExampleProofs.{toy_gives_32_bytes}
 use Rattle.session_meaning.specs.Messages.{Welcome, Proof, Refused, Closed}
 use Rattle.session_meaning.specs.Client.{Known, Asked, Idle, Calling, Client, Event, Hellos, Calls, Byes, Hears, Forgets, Tells, TellsWelcome, client_after, new_client}
-use Rattle.session_meaning.specs.ClientLaws.{ToldCall, IsTrueCall, IsSplitCall, ToldIsTrue, TrueUpToSplit, call_asked, event_session, pieces_offered, state_after, told_by, told_calls, value_read}
+use Rattle.session_meaning.specs.ClientLaws.{ToldIsTrue}
+use Rattle.session_meaning.specs.ToldCalls.{ToldCall, IsTrueCall, IsSplitCall, TrueUpToSplit, call_asked, event_session, pieces_offered, state_after, told_by, told_calls, value_read}
 use Rattle.session_meaning.specs.MessageRows.{text_digest}
 use Rattle.session_meaning.specs.RunRows.{seen_twice}
 

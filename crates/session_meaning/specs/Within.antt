@@ -1,10 +1,10 @@
 -- States and calls of a server that are within the limits.
 use Rattle.std.specs.Prelude.{◌<◌, ◌≤◌, ◌^◌}
+use Rattle.core_terms.specs.Limits.{most_fuel}
 use Rattle.core_terms.specs.Projection.{Fits}
 use Rattle.core_terms.specs.Terms.{Program}
 use Rattle.core_terms.specs.Values.{Value, IsIdeal, AuthWithin}
 use Rattle.session_meaning.specs.Calls.{RoleCall, role_in}
-use Rattle.session_meaning.specs.Server.{fuel_limit}
 
 -- It is a state of the program within the limits, and so is all that is authenticated in it.
 pub record IsStateWithin (P : Program) (v : Value) : Type 0 where
@@ -16,6 +16,6 @@ pub record IsStateWithin (P : Program) (v : Value) : Type 0 where
 -- role's type within the limits.
 pub record IsCallWithin (P : Program) (call : RoleCall) : Type 0 where
   pub role_fits : call.role < 2 ^ 16
-  pub fuel_fits : call.fuel ≤ fuel_limit
+  pub fuel_fits : call.fuel ≤ most_fuel
   pub ideal : IsIdeal P.types (role_in P call.role).argument call.argument
   pub fits : Fits P (role_in P call.role).argument call.argument

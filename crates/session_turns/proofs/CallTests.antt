@@ -4,6 +4,7 @@ use Rattle.std.proofs.Common.{not, is_some, nat_lt, if◌then◌else◌, slice_g
 use Rattle.std.specs.List.{All}
 use Rattle.std.proofs.lemmas.Option.{get_or_from_slice_get, slice_get-map, slice_get_within}
 use Rattle.core_terms.specs.Formats.{Hash}
+use Rattle.core_terms.specs.Limits.{most_fuel}
 use Rattle.core_terms.specs.Programs.{meaning, types_of}
 use Rattle.core_terms.specs.ProgramTypes.{types_meaning}
 use Rattle.core_terms.specs.Projection.{digest_at, read_at}
@@ -40,9 +41,6 @@ module _ (p : Program) (roles : List Role) (n : ℕ) (all : map (role_of (types_
   pub role_is : (role : Role) → slice_get roles n ≡ Some role → role_in (meaning p) n ≡ role_of (types_of p) role
   role_is role at = ap (λ o. unwrap_or o no_role) (found (Some role) at)
 
-  pub is_no_role : slice_get roles n ≡ None → role_in (meaning p) n ≡ no_role
-  is_no_role at = ap (λ o. unwrap_or o no_role) (found None at)
-
   pub shape_at : All (HasRoleShape (meaning p)) (program_roles (meaning p)) → (role : Role) → slice_get roles n ≡ Some role → HasRoleShape (meaning p) (role_of (types_of p) role)
   shape_at shapes role at =
       let r = role_of (types_of p) role in
@@ -72,16 +70,13 @@ module _ (hash : Hash) (P : tree.Program) (own : List ℕ) (ending : ℕ → ℕ
   reads = reads_state (role_in P role).kind
 
   abbrev much : Bool
-  much = nat_lt meant.fuel_limit fuel
+  much = nat_lt most_fuel fuel
 
   abbrev read : Read Value
   read = read_at P (role_in P role).argument argument
 
   idles : tested ≡ by false reads much read
   idles = ap (λ b. by b reads much read) (ap is_some idle)
-
-  pub refused_role : reads ≡ false → tested ≡ Err cause.NoRole
-  refused_role e = idles ∙ ap (λ b. by false b much read) e
 
   pub refused_fuel : reads ≡ true → much ≡ true → tested ≡ Err cause.MuchFuel
   refused_fuel e f = idles ∙ ap (λ b. by false b much read) e ∙ ap (λ b. by false true b read) f

@@ -3,6 +3,7 @@ use Rattle.std.proofs.Common.{◌≡◌, ℕ, ◌<◌, ◌≤◌, List, [], map,
 use Rattle.std.proofs.Common.{true, false, ◌&&◌, nat_lt, nat_le, if◌then◌else◌, slice_get, refl, sym, ap, ◌∙◌, subst, arith, ltb-true, le-leb}
 use Rattle.std.specs.List.{All}
 use Rattle.core_terms.specs.Formats.{Hash}
+use Rattle.core_terms.specs.Limits.{most_fuel}
 use Rattle.core_terms.specs.Programs.{meaning, types_of}
 use Rattle.core_terms.specs.ProgramTypes.{types_meaning}
 use Rattle.core_terms.specs.Projection.{digest_at, read_at}
@@ -57,7 +58,7 @@ many_tested changes n e many = subst (λ b. b && nat_le meant.versions_limit n �
 
 module _ (hash : Hash) (p : Program) (types : Types) (of_code : types ≡ p.types) (roles : List Role) (all : map (role_of (types_of p)) roles ≡ program_roles (meaning p))
     (shapes : All (HasRoleShape (meaning p)) (program_roles (meaning p))) (role : Role) (n : ℕ) (at : slice_get roles n ≡ Some role) (reads : reads_state (role_kind_of role.kind) ≡ true)
-    (fuel : ℕ) (few : fuel ≤ meant.fuel_limit) (own : List ℕ) (ending : ℕ → ℕ) (s : meant.Session) (idle : s.running ≡ None) (versions : ℕ) (argument : List ℕ) where
+    (fuel : ℕ) (few : fuel ≤ most_fuel) (own : List ℕ) (ending : ℕ → ℕ) (s : meant.Session) (idle : s.running ≡ None) (versions : ℕ) (argument : List ℕ) where
   abbrev P : tree.Program
   P = meaning p
 
@@ -75,7 +76,7 @@ module _ (hash : Hash) (p : Program) (types : Types) (of_code : types ≡ p.type
 
   to_read : (o : Read Value) → read_at P (type_at (types_of p) role.argument) argument ≡ o → tested ≡ meant.argument_test hash P own ending o versions s n fuel
   to_read o h =
-      as_read hash P own ending s idle versions n fuel argument (ap (λ r. reads_state r.kind) is ∙ reads) (not_below meant.fuel_limit fuel few)
+      as_read hash P own ending s idle versions n fuel argument (ap (λ r. reads_state r.kind) is ∙ reads) (not_below most_fuel fuel few)
       o (ap (λ r. read_at P r.argument argument) is ∙ h)
 
   refused : (nodes base : List Node) (fault : UnspellFault) (denial : Denial) → IsRead nodes (Err fault) → Denies fault denial

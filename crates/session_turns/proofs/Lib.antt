@@ -8,8 +8,6 @@ pub mod Newest
 pub mod Sharing
 -- settle: how a run ends, by its tests
 pub mod Settlements
--- greet: the tests of a greeting
-pub mod Greeted
 -- grant: the tests of a call, by what each says; and what a call that passes the first of them comes to
 pub mod CallTests
 pub mod Granting

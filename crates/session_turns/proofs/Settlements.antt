@@ -30,13 +30,6 @@ module _ (hash : Hash) (P : Program) (new : Shared) (number : ℕ) (s : meant.Se
   abbrev turned : Bool → Option Value → meant.Turned
   turned fits made = meant.frames_turn hash P fits made number s call frames shared
 
-  pub unmade : (nodes : List Node) (made : Option Value) (version : ℕ) → IsMade hash P nodes None made → version ≡ s.version → meant.fits_message frames ≡ true → Shares hash P new shared
-      → SettlesTo hash P new number s frames (Proved version) (turned (meant.fits_message frames) made)
-  unmade nodes (Some v) version m at e h = elim m [ ]
-  unmade nodes None version m at e h =
-      subst (λ fits. SettlesTo hash P new number s frames (Proved version) (turned fits None)) (sym e)
-      (subst (λ j. SettlesTo hash P new number s frames (Proved j) (turned true None)) (sym at) (h, (refl, refl)))
-
   pub stale : (nodes : List Node) (r : Ref) (made : Option Value) (state : List ℕ) → IsMade hash P nodes (Some r) made → state ≡ meant.last_spelling hash P shared.versions
       → nat_eq (suc s.version) (length shared.versions) ≡ false → meant.fits_message frames ≡ true → Shares hash P new shared
       → SettlesTo hash P new number s frames (Stale state) (turned (meant.fits_message frames) made)

@@ -10,16 +10,13 @@ ghost use Rattle.value_store.specs.Stores.{nodes_in, store_lent};
 use crate::refusal::{Denial, Refusal};
 use crate::shared::Shared;
 use code_gen::Code;
-use core_terms::{FunctionId, Hash32, Role, RoleKind};
+use core_terms::{FunctionId, Hash32, MOST_FUEL, Role, RoleKind};
 use shallow_codec::{UnspellFault, unspell};
 use std::alloc::Global;
 use value_store::{Over, Own, Ref};
 
 /// The greatest number of versions.
 const MAX_VERSIONS: usize = 4_096;
-
-/// The most fuel of a call.
-const MAX_FUEL: u64 = 1_000_000_000_000;
 
 /// A call that is granted.
 #[derive(Drop)]
@@ -80,7 +77,7 @@ impl Shared {
         if !reads_state(role.kind) {
             return Err(Denial::Refused(Refusal::NoRole));
         }
-        if fuel > MAX_FUEL {
+        if fuel > MOST_FUEL {
             return Err(Denial::Refused(Refusal::MuchFuel));
         }
         let from = self.store.count();

@@ -1,2 +1,2 @@
--- `of_types` and its callers
+-- `held_int`
 pub mod EmptyPrograms

@@ -1,12 +1,9 @@
 // Files of mirrors, cut anywhere and with each byte changed, loaded beside a plain reader of them.
-use core_terms::{Digest, Hash32};
+use core_terms::{Digest, Hash32, MOST_FILE_BYTES};
 use digest_layer::{Sha, Toy};
 use piece_mirror::{Mirror, MirrorFault};
 use std::alloc::{AllocError, Global};
 use std::test::Fail;
-
-/// The greatest number of bytes of a file that is loaded.
-const MOST_FILE_BYTES: usize = 67_108_864;
 
 /// The greatest number of bytes of a piece.
 const MOST_BYTES: usize = 1_048_608;

@@ -1,35 +1,19 @@
 // Programs of types alone, and a node of the prover's, spelled by its digest.
-ghost use Rattle.std.specs.Prelude.{◌≡◌, ◌≤◌, true, length, IfOk, IsTrue};
+ghost use Rattle.std.specs.Prelude.{◌≡◌, IfOk};
 ghost use Rattle.core_terms.specs.Programs.{meaning, types_in};
-ghost use Rattle.core_terms.specs.ProgramSizes.{levels_of_type};
-ghost use Rattle.core_terms.specs.TypeTables.{is_form_in, stands_behind, type_at};
+ghost use Rattle.core_terms.specs.TypeTables.{type_at};
 ghost use Rattle.core_terms.specs.Types.{AuthTy, Ty};
 
 use core_terms::{Digest, Format, Program, TyForm, TyId, TyTable};
 use shallow_codec::spell;
 use std::alloc::{AllocError, Global};
 use std::test::Fail;
+use term_stage::flat::is_flat;
+use term_stage::tables::may_stand;
 use value_store::{Held, Nodes, Store};
 
 /// How many levels a type that is written has at most.
 const MOST_LEVELS: u8 = 100;
-
-/// Whether a type has at most so many levels.
-fn is_flat(types: &TyTable, ty: TyId, levels: u8) -> bool
-    ensures { IsTrue result → levels_of_type (type_at (types_in types.now) ty) ≤ levels }
-{
-    if levels == 0 {
-        return false;
-    }
-    match types.form(ty) {
-        TyForm::PairForm(first, second) => {
-            is_flat(types, first, levels - 1) && is_flat(types, second, levels - 1)
-        }
-        TyForm::AuthForm(part) => is_flat(types, part, levels - 1),
-        TyForm::VecForm(_, part) => is_flat(types, part, levels - 1),
-        _ => true,
-    }
-}
 
 /// A program without functions and named types. An error where its state is none of the types, or has more levels than one that is written.
 #[tactic(auto, using(crate::proofs::EmptyPrograms::are_named, crate::proofs::EmptyPrograms::is_limited))]
@@ -49,22 +33,6 @@ pub fn of_types(alloc: Global, types: TyTable, state: TyId) -> Result<Program, A
     )
 }
 
-/// Whether a type of this form may be one of a table: its parts are there, and an array is one of the second format, of 1 to 64 elements.
-fn fits(types: &TyTable, form: TyForm) -> bool
-    ensures parts { IsTrue result → stands_behind (length (types_in types.now)) form ≡ true }
-    ensures format { IsTrue result → is_form_in types.now.format form ≡ true }
-{
-    let count = types.len();
-    match form {
-        TyForm::AuthForm(part) => part.0 < count,
-        TyForm::PairForm(first, second) => first.0 < count && second.0 < count,
-        TyForm::VecForm(len, item) => {
-            types.format() == Format::Second && item.0 < count && len >= 1 && len <= 64
-        }
-        _ => true,
-    }
-}
-
 /// Types of these forms, in a format, and the last one.
 fn table_of(
     alloc: Global,
@@ -74,7 +42,7 @@ fn table_of(
     let mut types = TyTable::new(format, alloc);
     let mut last = TyId(0);
     for form in forms {
-        if !fits(&types, *form) {
+        if !may_stand(&types, *form) {
             return Err(AllocError);
         }
         last = types.intern(*form)?;

@@ -3,13 +3,10 @@ ghost use Rattle.value_store.specs.Markings.{IdealMarking};
 
 use auth_syntax::parser::parse;
 use auth_types::check::check;
-use core_terms::{Digest, Program, TyId, Types};
+use core_terms::{Digest, MOST_PROGRAM_BYTES, Program, TyId, Types};
 use images::{ImageFault, load_image, save_image};
 use std::alloc::{AllocError, Global};
 use value_store::{Held, Marker, Nodes, Ref, Store};
-
-/// The longest text of a program, in bytes.
-const MAX_PROGRAM: usize = 262_144;
 
 /// The digest that stands for that of each program's text.
 pub const DIGEST: [u8; 32] = [7; 32];
@@ -40,13 +37,13 @@ impl Marker for Ideal {
 ///
 /// `AllocError` where memory runs out, or where the text is no program.
 pub fn program_of(alloc: Global, text: &[u8]) -> Result<Box<Program>, AllocError> {
-    if text.len() > MAX_PROGRAM {
+    if text.len() > MOST_PROGRAM_BYTES {
         return Err(AllocError);
     }
     let Ok(ast) = parse(alloc, text) else {
         return Err(AllocError);
     };
-    match check(alloc, ast, Digest(DIGEST)) {
+    match check(alloc, &ast, Digest(DIGEST)) {
         Ok(program) => Ok(Box::new(alloc, program)?),
         Err(_) => Err(AllocError),
     }

@@ -5,9 +5,9 @@ use lib.Signed.{mag}
 use Rattle.std.proofs.lemmas.Int.{to_z-of_z}
 use Rattle.std.proofs.lemmas.List.{drop_all, drop_more, length-append, length-map}
 use Rattle.std.proofs.lemmas.Option.{slice_get-get_or, slice_get-map}
-use Rattle.core_terms.specs.Types.{Ty, UnitTy, BoolTy, IntTy, PairTy, AuthTy, VecTy, is_length}
+use Rattle.core_terms.specs.Types.{Ty, UnitTy, BoolTy, IntTy, PairTy, VecTy, is_length}
 use Rattle.core_terms.specs.Values.{int_fits}
-use Rattle.core_terms.specs.Terms.{Expression, UnitE, BoolE, IntE, LocalE, PairE, FstE, SndE, AuthE, UnauthE, LetE, OperateE, VecPut, Expressions, NoE, AndE, Arms, NoArm, AndArm, Program}
+use Rattle.core_terms.specs.Terms.{Expression, UnitE, BoolE, IntE, LocalE, PairE, LetE, OperateE, VecPut, Expressions, NoE, AndE, Arms, NoArm, AndArm, Program}
 use Rattle.core_terms.specs.ProgramLimits.{most_locals}
 use Rattle.core_terms.specs.ProgramSizes.{locals_in}
 use Rattle.core_terms.specs.ProgramTrees.{expression_of, in_a_row, arms_in_a_row, operation_of, table_of, types_at}
@@ -73,18 +73,6 @@ module _ (P : Program) (env : List Ty) where
       few = omega (arith, h.first.few, h.second.few);
       counted = omega (arith, h.first.counted, h.second.counted);
     }
-
-    pub fst_fits : (s t : Ty) (x : Expression) → Fits P env x (PairTy s t) l b a → Fits P env (FstE s t x) s (suc l) (suc b) a
-    fst_fits s t x h = record { typed = (refl, h.typed); flat = omega (arith, h.flat); few = h.few; counted = omega (arith, h.counted) }
-
-    pub snd_fits : (s t : Ty) (x : Expression) → Fits P env x (PairTy s t) l b a → Fits P env (SndE s t x) t (suc l) (suc b) a
-    snd_fits s t x h = record { typed = (refl, h.typed); flat = omega (arith, h.flat); few = h.few; counted = omega (arith, h.counted) }
-
-    pub auth_fits : (t : Ty) (x : Expression) → Fits P env x t l b a → Fits P env (AuthE t x) (AuthTy t) (suc l) (suc b) a
-    auth_fits t x h = record { typed = (refl, h.typed); flat = omega (arith, h.flat); few = h.few; counted = omega (arith, h.counted) }
-
-    pub unauth_fits : (t : Ty) (x : Expression) → Fits P env x (AuthTy t) l b a → Fits P env (UnauthE t x) t (suc l) (suc b) a
-    unauth_fits t x h = record { typed = (refl, h.typed); flat = omega (arith, h.flat); few = h.few; counted = omega (arith, h.counted) }
 
     pub let_fits : (s t : Ty) (x body : Expression) (m : ℕ) → Fits P env x s l b m → Fits P (env ++ s ∷ []) body t l m a → Fits P env (LetE s x body) t (suc l) (suc b) a
     let_fits s t x body m first second =

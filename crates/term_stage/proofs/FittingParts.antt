@@ -1,7 +1,7 @@
 -- A program of parts that fit is well-typed and within its limits.
 use Rattle.std.proofs.Common.{◌≡◌, ℕ, ◌+◌, ◌<◌, ◌≤◌, ◌∙◌, true, List, [], ◌∷◌, length, map, drop, get_or, take, nat_lt, refl, sym, ap, subst, arith, lt-ltb}
 use Rattle.std.specs.Prelude.{All}
-use Rattle.std.proofs.lemmas.List.{drop_all, drop_more, length-map, take_all}
+use Rattle.std.proofs.lemmas.List.{drop_more, length-map, take_all}
 use Rattle.std.proofs.lemmas.List.Elements.{All-head, All-more, All-tail, All-map, All-weaker}
 use Rattle.core_terms.specs.Types.{Ty}
 use Rattle.core_terms.specs.Terms.{Program}
@@ -36,10 +36,7 @@ counted_more types fs i f limit all left rest there is taken so_far =
     let next : drop i fs ≡ f ∷ drop (i + 1) fs = drop_more fs i f there ∙ ap (λ f. f ∷ drop (i + 1) fs) (sym is) in
     omega (arith, taken, so_far, ap (λ fs. expressions_in_all (map (function_of types) fs)) next)
 
--- no function is left
-pub counted_all : (types : List Ty) (fs : List Function) (i limit all left : ℕ) → length fs ≤ i → all + left ≤ expressions_in_all (map (function_of types) (drop i fs)) + limit → all ≤ limit
-counted_all types fs i limit all left past so_far = omega (arith, so_far, ap (λ fs. expressions_in_all (map (function_of types) fs)) (drop_all i fs past))
-
+-- types that fit are flat
 flat_types : (types : List Ty) (ids : List TyId) → All (TypeFits types) ids → All IsFlatType (types_at types ids)
 flat_types types ids all = All-map IsFlatType (type_at types) ids (All-weaker (TypeFits types) (λ id. IsFlatType (type_at types id)) (λ id fits. fits.flat) ids all)
 

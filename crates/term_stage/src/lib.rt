@@ -5,6 +5,7 @@
 pub mod compiled;
 pub mod flat;
 pub mod judge;
+pub mod one_int;
 pub mod parts;
 pub mod shapes;
 pub mod tables;

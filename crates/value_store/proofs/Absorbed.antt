@@ -1,10 +1,9 @@
 -- A store that took own nodes over, where there was memory.
-use Rattle.std.proofs.Common.{◌≡◌, ◌⊎◌, inl, inr, ℕ, ◌-◌, ◌≤◌, List, ◌++◌, length, take, map, sym, ap, ◌∙◌, subst}
-use Rattle.std.proofs.Math.Seq.{take-append_seam, take-length}
+use Rattle.std.proofs.Common.{◌≡◌, ◌⊎◌, inl, inr, ℕ, ◌-◌, ◌≤◌, List, ◌++◌, length, take, map, sym, subst}
 use Rattle.core_terms.specs.Types.{Ty, Table}
 use Rattle.core_terms.specs.Values.{Value}
 use Rattle.value_store.specs.Nodes.{AreSound, Node}
-use Rattle.value_store.specs.Standing.{Grows, Keeps, Kind, StandsFor}
+use Rattle.value_store.specs.Standing.{Keeps, Kind, StandsFor}
 use Rattle.value_store.specs.Moving.{absorbed, moved_node, moved_ref}
 use Rattle.value_store.proofs.Moved.{kept_before}
 use Rattle.value_store.proofs.Renumbered.{absorbed_sound, absorbed_stands}
@@ -24,13 +23,6 @@ module _ {limit : ℕ} (from : ℕ) (base own new : List Node) (within : from �
         by : (new ≡ base) ⊎ (new ≡ absorbed from base own) → Keeps base new
         by (inl same) = subst (Keeps base) (sym same) (λ kind types r t v h. h)
         by (inr joined) = subst (Keeps base) (sym joined) (kept_before base (map (moved_node from (length base - from)) own))
-
-    pub joined_grows : Grows base new
-    joined_grows = by either
-      where
-        by : (new ≡ base) ⊎ (new ≡ absorbed from base own) → Grows base new
-        by (inl same) = ap (take (length base)) same ∙ take-length base
-        by (inr joined) = ap (take (length base)) joined ∙ take-append_seam base (map (moved_node from (length base - from)) own)
 
   pub joined_stands : new ≡ absorbed from base own → (r s : ℕ) → s ≡ moved_ref from (length base - from) r → (kind : Kind) (types : Table) (t : Ty) (v : Value)
       → StandsFor kind types (take from base ++ own) r t v → StandsFor kind types new s t v

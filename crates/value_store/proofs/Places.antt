@@ -1,5 +1,5 @@
 -- Lists that others are put behind, or that are cut, and what is read of them.
-use Rattle.std.proofs.Common.{◌≡◌, ◌⊎◌, inl, inr, ℕ, zero, suc, ◌+◌, ◌-◌, ◌<◌, ◌≤◌, List, [], ◌∷◌, ◌++◌, length, take, drop, map, Some, None, slice_get, refl, sym, ap, ap₂, ◌∙◌, arith, length-append, take_all}
+use Rattle.std.proofs.Common.{◌≡◌, ◌⊎◌, inl, inr, ℕ, zero, suc, ◌+◌, ◌-◌, ◌<◌, ◌≤◌, List, [], ◌∷◌, ◌++◌, length, take, drop, map, Some, None, slice_get, refl, sym, ap, ap₂, ◌∙◌, arith}
 use Rattle.std.specs.Prelude.{slice_range}
 use Rattle.std.proofs.lemmas.Option.{slice_get_past}
 use Rattle.std.proofs.lemmas.List.{length-take, take-map, drop-map, drop-take}
@@ -54,15 +54,6 @@ module _ {X : Type 0} where
       let long : (e + length xs) - (a + length xs) ≡ e - a = omega arith in
       let begin : a + length xs ≡ length xs + a = omega arith in
       ap₂ (λ n m. take n (drop m (xs ++ ys))) long begin ∙ ap (take (e - a)) (drop-append-add xs ys a)
-
-  pub range_end : (xs ys : List X) → slice_range (xs ++ ys) (length xs) (length (xs ++ ys)) ≡ ys
-  range_end xs ys = by
-    where
-      rest : drop (length xs) (xs ++ ys) ≡ ys
-      rest = let e : length xs ≡ length xs + 0 = omega arith in ap (λ n. drop n (xs ++ ys)) e ∙ drop-append-add xs ys 0
-
-      by : slice_range (xs ++ ys) (length xs) (length (xs ++ ys)) ≡ ys
-      by = let long : length (xs ++ ys) - length xs ≡ length ys = omega (arith, length-append xs ys) in ap₂ take long rest ∙ take_all (length ys) ys (omega arith)
 
 module _ {A B : Type 0} (f : A → B) where
   pub range_map : (xs : List A) (a e : ℕ) → slice_range (map f xs) a e ≡ map f (slice_range xs a e)

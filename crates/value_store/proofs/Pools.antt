@@ -1,12 +1,12 @@
 -- Packed nodes, where nodes are put behind them, where the pools grow, and where all is cut.
 use Rattle.std.proofs.Common.{◌≡◌, ◌⊎◌, inl, inr, ℕ, zero, suc, ◌+◌, ◌<◌, ◌≤◌, Bool, true, false, if◌then◌else◌, List, [], ◌∷◌, ◌++◌, length, take, Some, slice_get, slice_index_or, refl, sym, ap, ◌∙◌, subst, arith}
 use Rattle.std.specs.Option.{option_map, option_map_or}
-use Rattle.std.proofs.lemmas.List.{length-map, length-take, map-append, take-map, take-take}
+use Rattle.std.proofs.lemmas.List.{length-map, length-take, take-map, take-take}
 use Rattle.std.proofs.lemmas.Option.{slice_get-map, slice_get-get_or}
 use Rattle.std.proofs.Math.Seq.{take-append_seam, take-length}
 use Rattle.core_terms.specs.declared.digest.Digest.{Digest}
 use Rattle.value_store.specs.Nodes as meant
-use Rattle.value_store.specs.CodeNodes.{form_of, kept_depth, kept_size, node_of, node_with_end, nodes_of, numbers_of}
+use Rattle.value_store.specs.CodeNodes.{form_of, kept_depth, kept_size, node_of, nodes_of, numbers_of}
 use Rattle.value_store.specs.Placing.{ArePlaced, EndsBy, FirstEndBy, IsPlaced, LiesBefore, Rise, with_parts}
 use Rattle.value_store.specs.declared.node.Ref.{Ref}
 use Rattle.value_store.specs.declared.node.Form.{Form}
@@ -155,10 +155,6 @@ module _ (p : List Ref) (d : List Digest) (nodes : List Node) (placed : ArePlace
         by : (b : Bool) → new ≡ (if b then nodes ++ node ∷ [] else nodes) → Rise new
         by true e = subst Rise (sym e) rise_one
         by false e = subst Rise (sym e) rise
-
-  pub nodes_pushed : (new : List Node) → new ≡ nodes ++ node ∷ [] → nodes_of p d new ≡ nodes_of p d nodes ++ node_with_end p d (length p) node.form ∷ []
-  nodes_pushed new e =
-      ap (nodes_of p d) e ∙ map-append (node_of p d) nodes (node ∷ []) ∙ ap (λ n. nodes_of p d nodes ++ node_with_end p d n node.form ∷ []) parts
 
 -- the first n of the nodes, with the pools up to where these end
 module _ (p : List Ref) (d : List Digest) (nodes : List Node) (n pe de : ℕ) (placed : ArePlaced p d nodes) (ends : FirstEndBy n nodes pe de) where

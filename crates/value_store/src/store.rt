@@ -31,8 +31,8 @@ pub struct Mark(pub(crate) usize);
 impl Store {
     ghost use Rattle.value_store.specs.Stores.{nodes_in};
 
-    /// A store without nodes, for values whose spellings have at most so many bytes. It has room for some where there
-    /// is memory.
+    /// A store without nodes, for values whose spellings have at most so many bytes, from 65,536 to 1,048,576. It has room for some where
+    /// there is memory.
     pub fn new(alloc: Global, limit: u32) -> Self
         requires least { least_limit ≤ limit }
         requires greatest { limit ≤ greatest_limit }

@@ -1,14 +1,9 @@
 // Verdicts on calls, over sources that give a few bytes a read, and over sources without an end.
-ghost use Rattle.std.specs.Prelude.{◌<◌, ◌≤◌, ◌^◌, length, IfSome};
-ghost use Rattle.core_terms.specs.Programs.{meaning};
-ghost use Rattle.mode_vm.specs.StateCalls.{TakesState};
+ghost use Rattle.std.specs.Prelude.{◌<◌, ◌≤◌};
 
-use auth_syntax::parser::parse;
-use auth_types::check::check;
+use call_stage::calls::{code_of, reading};
 use code_gen::Code;
-use core_terms::{
-    Cause, Digest, FunctionId, Hash32, Outcome, Program, RoleId, RoleKind, Spelling, Trap,
-};
+use core_terms::{Cause, Digest, Hash32, Outcome, Spelling, Trap};
 use digest_layer::Sha;
 use lam_outside::{Bytes, Endless, MemLink};
 use proof_stream::{put_new, put_use};
@@ -203,31 +198,6 @@ const PAIRS: [Row; 5] = [
     ),
 ];
 
-/// The code of a program.
-fn code_of(alloc: Global, text: &[u8]) -> Result<Box<Code>, AllocError>
-    requires { length text.now ≤ 262144 }
-{
-    let Ok(ast) = parse(alloc, text) else {
-        return Err(AllocError);
-    };
-    let Ok(program) = check(alloc, ast, Digest(H0)) else {
-        return Err(AllocError);
-    };
-    Ok(Box::new(alloc, Code::generate(program, alloc)?)?)
-}
-
-/// The function of a role that reads the state.
-fn reading(program: &Program, name: &str) -> Option<FunctionId>
-    ensures { IfSome result (λ f. (f.0 < length (meaning program.now).functions) × TakesState (meaning program.now) f.0) }
-{
-    let RoleId(number) = program.role(name)?;
-    let role = program.roles().get(number)?;
-    match role.kind {
-        RoleKind::Init => None,
-        RoleKind::Query | RoleKind::Update => Some(role.function),
-    }
-}
-
 /// What is told of a call with the argument `()`.
 fn judged(
     alloc: Global,
@@ -254,10 +224,9 @@ fn misjudged(
     rows: &[Row],
     most: usize,
 ) -> Result<Option<usize>, AllocError>
-    requires small { length text.now ≤ 262144 }
-    requires some { 0 < most }
+    requires { 0 < most }
 {
-    let code = code_of(alloc, text)?;
+    let code = code_of(alloc, text, Digest(H0))?;
     for (number, row) in rows.iter().enumerate() {
         let answer = judged(alloc, &code, *row, state, most)?;
         if !row.3.is(&answer) {
@@ -289,7 +258,7 @@ fn opened_many(
     news: usize,
     k: u16,
 ) -> Result<Result<Outcome<Spelling>, Verdict>, AllocError> {
-    let code = code_of(alloc, BOOL)?;
+    let code = code_of(alloc, BOOL, Digest(H0))?;
     let Some(role) = reading(code.program(), "many") else {
         return Err(AllocError);
     };
@@ -325,7 +294,7 @@ fn the_oldest_of_1024_is_kept(rt: HostRuntime) -> Result<(), Fail> {
 
 /// The verdict on a call of `size`, where the state is the digest of a text of 65,532 bytes: its piece has 65,536.
 fn sized(alloc: Global) -> Result<Result<Outcome<Spelling>, Verdict>, AllocError> {
-    let code = code_of(alloc, TEXT)?;
+    let code = code_of(alloc, TEXT, Digest(H0))?;
     let Some(role) = reading(code.program(), "size") else {
         return Err(AllocError);
     };
@@ -355,7 +324,7 @@ fn endless(
     round: &'static [u8],
     headed: bool,
 ) -> Result<Result<Outcome<Spelling>, Verdict>, AllocError> {
-    let code = code_of(alloc, UNIT)?;
+    let code = code_of(alloc, UNIT, Digest(H0))?;
     let Some(role) = reading(code.program(), "open") else {
         return Err(AllocError);
     };
@@ -393,7 +362,7 @@ fn unproved(
     state: &[u8],
     argument: &[u8],
 ) -> Result<Result<Outcome<Spelling>, Verdict>, AllocError> {
-    let code = code_of(alloc, UNIT)?;
+    let code = code_of(alloc, UNIT, Digest(H0))?;
     let Some(role) = reading(code.program(), "open") else {
         return Err(AllocError);
     };
@@ -420,7 +389,7 @@ fn the_state_and_the_argument_come_first(rt: HostRuntime) -> Result<(), Fail> {
 fn following(alloc: Global, size: u16) -> Result<Result<Outcome<Spelling>, Verdict>, AllocError>
     requires { size ≤ 1024 }
 {
-    let code = code_of(alloc, BOOL)?;
+    let code = code_of(alloc, BOOL, Digest(H0))?;
     let Some(role) = reading(code.program(), "both") else {
         return Err(AllocError);
     };

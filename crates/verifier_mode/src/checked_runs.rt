@@ -26,7 +26,7 @@ use std::alloc::Global;
 use value_store::{Nodes, Ref};
 
 /// Calls a function on values of the store, as a verifier over the frames of a source whose ring holds what came before, with at most
-/// 10^12 units of fuel. It gives the outcome, and the ring as the run left it.
+/// 10^12 units of fuel. The store has the limit of the program's format. It gives the outcome, and the ring as the run left it.
 ///
 /// # Errors
 ///

@@ -17,12 +17,23 @@ pub struct LastRead {
     pub(crate) value: Ref,
 }
 
+impl LastRead {
+    /// Whether the piece ends in the same byte. Of two pieces that differ most don't: they end in a child's digest.
+    #[inline(always)]
+    fn ends_as(&self, piece: &[u8]) -> bool {
+        self.piece.as_slice().last() == piece.last()
+    }
+}
+
 /// The value of a piece at a type, where it is the last new one.
 pub(crate) fn value_again(last: &Option<LastRead>, ty: TyId, piece: &[u8]) -> Option<Ref>
     ensures { (types : Typed) (nodes : List Node) → KnowsLast types nodes last.now → IfSome result (IsRead types nodes ty piece.now) }
 {
     match last {
         Some(last) => {
+            if !last.ends_as(piece) {
+                return None;
+            }
             if last.ty == ty && last.piece.as_slice() == piece {
                 Some(last.value)
             } else {

@@ -119,10 +119,6 @@ impl<H: Hash32, S: Source> Mode for Verifier<H, S> {
     ghost moves_on = { λ a b c v w x h k.
         moves_on (limit_of a.reader) a.ring (S.left v) (limit_of b.reader) b.ring (S.left w) (limit_of c.reader) c.ring (S.left x) h k };
 
-    ghost Asks = { ⊥ };
-
-    ghost Answer = { Unit {0} };
-
     ghost May = { λ v a w. ⊥ };
 
     ghost Last = { λ v a f w. ⊥ };

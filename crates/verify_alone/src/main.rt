@@ -2,7 +2,8 @@
 //! built, unproved, within a minute.
 #![tactic(auto)]
 
-use file_commands::{Halt, Status, tell, verify_command};
+use call_commands::verify_command;
+use command_parts::{Halt, Status, tell};
 use host_files::{HostFiles, HostSink, words};
 use std::process::ExitCode;
 

@@ -45,25 +45,6 @@ last_version : (versions made : List Value) (k n : ℕ) → length versions ≡ 
 last_version versions made k n size within = grind (arith, places)
 
 module _ (P : Program) (own image : List ℕ) (calls : List RoleCall) (versions : List Value) (news : List RoleCall) (made : List Value) where
-  -- before the first
-  pub none_appended : (m : Option Moments) → IfSome m (AtLast (IsKept (journal_front own image calls))) → ForTold m m (AppendedSoFar P own image calls versions news made 0)
-  none_appended None kept = tt
-  none_appended (Some []) kept = tt
-  none_appended (Some (file ∷ past)) kept = (
-    file ∷ past,
-    refl,
-    record {
-      steps = [];
-      count = refl;
-      acknowledged = refl;
-      passed = refl;
-      passing = refl;
-      goes_on = λ others are. subst (λ (cs : List RoleCall). AreAppendsTo P own image cs versions others) (append-nil calls)
-          (subst (λ (vs : List Value). AreAppendsTo P own image (calls ++ []) vs others) (append-nil versions) are);
-      last = subst (λ (cs : List RoleCall). IsKept (journal_front own image cs) file) (sym (append-nil calls)) kept;
-    },
-  )
-
   module _ (n : ℕ) (call : RoleCall) (w : Value) (few : length (calls ++ take n news) < records_limit)
       (is : IsWritable P (version_at (versions ++ take n made) (length (calls ++ take n news))) call w)
       (more : take (n + 1) news ≡ take n news ++ call ∷ []) (more_made : take (n + 1) made ≡ take n made ++ w ∷ []) where

@@ -40,7 +40,8 @@ impl Journal {
         self.records
     }
 
-    /// Appends a commit. The journal's own file must be chosen, and have fewer than 4,095 records.
+    /// Appends a commit, whose role is below 2^16 and whose argument has at most 1,048,576 bytes. The journal's own file must be chosen, and
+    /// have fewer than 4,095 records.
     ///
     /// A crash at any moment of the call leaves the commits that were there, or those with this one. After `Ok` it leaves those with this one.
     ///

@@ -22,10 +22,15 @@ use crate::journal::Journal;
 use lam_outside::Disk;
 use session_turns::Commit;
 
-/// Appends commits, one after another, up to the first that fails. There must be room for all of them.
+/// Appends commits, one after another, up to the first that fails. There must be room for all of them, which are 4,095 records with those
+/// that are there at most, and each must be one that `append` takes.
 ///
 /// A crash at any moment leaves the commits that were there with the first of these behind them, in order; after `Ok` with all. Where each
 /// makes a version of the last one, they are appended as the law on crashes says.
+///
+/// # Errors
+///
+/// Those of [`Journal::append`], of the first commit that is not appended.
 pub fn append_all<D: Disk>(
     journal: &mut Journal,
     disk: &mut D,

@@ -87,7 +87,11 @@ fn standing(alloc: Global, opening: Opening) -> Opened
     }
 }
 
-/// What the bytes give, as a journal of the program.
+/// What the bytes give, as a journal of the program: the versions and commits, how many records it has, and where the next one begins.
+///
+/// # Errors
+///
+/// The first fault of the journal, from left to right; `NoMemory`.
 pub fn read_journal<H: Hash32>(
     alloc: Global,
     code: &Code,

@@ -7,7 +7,8 @@ use Rattle.std.specs.Io.KnownBytes.{prepend_known}
 use Rattle.std.specs.declared.alloc.Global.{Global}
 use Rattle.session_meaning.specs.Messages as meant
 use Rattle.session_meaning.specs.Messages.{message_limit, u32_in}
-use Rattle.wire_form.specs.Incoming.{BodyCame, IsCutOff, TookAtMost, TookLess, TookUnfinished, WholeCame, length_field}
+use Rattle.lam_outside.specs.Told.{TookAtMost}
+use Rattle.wire_form.specs.Incoming.{BodyCame, IsCutOff, TookLess, TookUnfinished, WholeCame, length_field}
 use Rattle.wire_form.specs.ReadMessages.{ReadsMessage, SaysWhole, StopsShort}
 use Rattle.wire_form.specs.declared.message.ReadStop.{ReadStop}
 use Rattle.wire_form.specs.declared.message.ReadStop.TheVariants.{BadMessage, TooLong, End, Cut, LinkFault, NoMemory}

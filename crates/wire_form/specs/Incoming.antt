@@ -2,6 +2,7 @@
 use Rattle.std.specs.Prelude.{◌≡◌, ◌⊎◌, ℕ, ◌<◌, ◌≤◌, ◌+◌, List, [], length, take, drop, Option, Some, Result, Ok, Err, Vec}
 use Rattle.std.specs.declared.alloc.Global.{Global}
 use Rattle.lam_outside.specs.Causes.{Rose}
+use Rattle.lam_outside.specs.Told.{TookAtMost}
 use Rattle.session_meaning.specs.Messages.{u32_in, message_limit}
 use Rattle.wire_form.specs.declared.message.ReadStop.{ReadStop}
 use Rattle.wire_form.specs.declared.message.ReadStop.TheVariants.{BadMessage, TooLong, End, Cut, LinkFault, NoMemory}
@@ -9,10 +10,6 @@ use Rattle.wire_form.specs.declared.message.ReadStop.TheVariants.{BadMessage, To
 -- fewer than n of these bytes were taken, from their front
 abbrev pub TookLess : ℕ → List ℕ → Option (List ℕ) → Type 0
 TookLess n bytes left' = (taken : ℕ) × (taken < n) × (left' ≡ Some (drop taken bytes))
-
--- or at most n
-abbrev pub TookAtMost : ℕ → List ℕ → Option (List ℕ) → Type 0
-TookAtMost n bytes left' = (taken : ℕ) × (taken ≤ n) × (left' ≡ Some (drop taken bytes))
 
 -- there are bytes, and they end inside the message with which they begin
 abbrev pub IsCutOff : List ℕ → Type 0

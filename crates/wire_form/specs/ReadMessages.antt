@@ -1,7 +1,8 @@
 -- What a read of a message answers, and which bytes it takes.
 use Rattle.std.specs.Prelude.{◌≡◌, ◌⊎◌, ℕ, ◌+◌, List, [], take, drop, Option, Some, Result, Ok, Err, ⊤}
 use Rattle.session_meaning.specs.Messages as meant
-use Rattle.wire_form.specs.Incoming.{TookAtMost, length_field}
+use Rattle.lam_outside.specs.Told.{TookAtMost}
+use Rattle.wire_form.specs.Incoming.{length_field}
 use Rattle.wire_form.specs.declared.message.ReadStop.{ReadStop}
 use Rattle.wire_form.specs.declared.message.ReadStop.TheVariants.{BadMessage, TooLong, End, Cut, LinkFault, NoMemory}
 

@@ -8,7 +8,7 @@ use crate::fields::{
     cause_field, digest_field, end, number_of_eight, number_of_two, rounds_field, session_field,
     zero_field,
 };
-use crate::{Reply, Request};
+use crate::{Reply, Request, kinds};
 use core_terms::Piece;
 use std::alloc::{AllocError, Global};
 
@@ -37,10 +37,10 @@ pub fn request(alloc: Global, kind: u8, body: &[u8]) -> Result<Request, BodyFaul
     ensures { SaysOf request_meant (meant.request_of kind body.now) result }
 {
     match kind {
-        1 => hello(alloc, body),
-        2 => call(alloc, body),
-        3 => go(body),
-        4 => bye(body),
+        kinds::HELLO => hello(alloc, body),
+        kinds::CALL => call(alloc, body),
+        kinds::GO => go(body),
+        kinds::BYE => bye(body),
         _ => Err(BodyFault::At(0)),
     }
 }
@@ -97,11 +97,11 @@ pub fn reply(alloc: Global, kind: u8, body: &[u8]) -> Result<Reply, BodyFault>
     ensures { SaysOf reply_meant (meant.reply_of kind body.now) result }
 {
     match kind {
-        0x81 => welcome(body),
-        0x82 => proof(alloc, body),
-        0x83 => stale(alloc, body),
-        0x84 => refused(body),
-        0x85 => closed(body),
+        kinds::WELCOME => welcome(body),
+        kinds::PROOF => proof(alloc, body),
+        kinds::STALE => stale(alloc, body),
+        kinds::REFUSED => refused(body),
+        kinds::CLOSED => closed(body),
         _ => Err(BodyFault::At(0)),
     }
 }

@@ -9,6 +9,7 @@ mod fetch;
 mod fields;
 mod got;
 mod incoming;
+pub mod kinds;
 mod message;
 mod pieces;
 mod reading;

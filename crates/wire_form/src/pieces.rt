@@ -17,7 +17,7 @@ use crate::body::{BodyFault, piece};
 use crate::fields::{digest_field, end, zero_field};
 use crate::reading::read_whole;
 use crate::writing::{put_start, write_message};
-use crate::{Got, ReadStop, WriteStop};
+use crate::{Got, ReadStop, WriteStop, kinds};
 use core_terms::Digest;
 use lam_outside::Link;
 use std::alloc::{AllocError, Global};
@@ -85,7 +85,7 @@ fn fetch(kind: u8, body: &[u8]) -> Result<Digest, BodyFault>
     ensures { SaysOf digest_meant (asked.fetch_of kind body.now) result }
 {
     match kind {
-        5 => fetch_body(body),
+        kinds::FETCH => fetch_body(body),
         _ => Err(BodyFault::At(0)),
     }
 }
@@ -104,8 +104,8 @@ fn answer(alloc: Global, kind: u8, body: &[u8]) -> Result<Got, BodyFault>
     ensures { SaysOf got_meant (asked.answer_of kind body.now) result }
 {
     match kind {
-        0x86 => found(alloc, body),
-        0x87 => lacking(body),
+        kinds::PIECE => found(alloc, body),
+        kinds::LACK => lacking(body),
         _ => Err(BodyFault::At(0)),
     }
 }
@@ -139,7 +139,7 @@ pub fn write_fetch<L: Link>(alloc: Global, link: &mut L, digest: &Digest) -> Res
     write_message(alloc, link, &fields, &digest.0)
 }
 
-/// Writes an answer. The answers are those of `write_reply`.
+/// Writes an answer, with a piece of at most 16,777,213 bytes. The answers are those of `write_reply`.
 pub fn write_piece<L: Link>(alloc: Global, link: &mut L, got: &Got) -> Result<(), WriteStop>
     requires { asked.IsAnswer (got_meant got.now) }
     ensures sends { Sends (asked.answer_bytes (got_meant got.now)) (L.sent link.old) (L.sent link.new) result }
@@ -158,7 +158,7 @@ fn fetch_head(alloc: Global) -> Result<Vec<u8>, AllocError>
     ensures { IfOk result (λ head. head.items ≡ fetch_fields) }
 {
     let mut head = Vec::new(alloc);
-    put_start(&mut head, 5, 0)?;
+    put_start(&mut head, kinds::FETCH, 0)?;
     Ok(head)
 }
 
@@ -168,8 +168,8 @@ fn answer_head(alloc: Global, got: &Got) -> Result<Vec<u8>, AllocError>
 {
     let mut head = Vec::new(alloc);
     match got {
-        Got::Piece(_) => put_start(&mut head, 0x86, 0)?,
-        Got::Lack => put_start(&mut head, 0x87, 0)?,
+        Got::Piece(_) => put_start(&mut head, kinds::PIECE, 0)?,
+        Got::Lack => put_start(&mut head, kinds::LACK, 0)?,
         Got::Broken(_) => {}
     }
     Ok(head)

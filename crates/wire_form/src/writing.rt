@@ -6,11 +6,11 @@ ghost use Rattle.session_meaning.specs.MessageFields as message_fields;
 ghost use Rattle.wire_form.specs.MessageViews.{reply_meant, request_meant};
 ghost use Rattle.wire_form.specs.WrittenMessages.{Sends, WriteCause, reply_fields, reply_tail, request_fields, request_tail};
 
-use crate::{Reply, Request, WriteStop};
+use crate::{Reply, Request, WriteStop, kinds};
 use lam_outside::{Link, send_all};
 use std::alloc::{AllocError, Global};
 
-/// Writes a request.
+/// Writes a request, whose session isn't 0 and whose body has at most 16,777,216 bytes.
 ///
 /// `LinkFault` where the link failed, and its count of faults rose; `NoMemory` where there was no memory for the message's
 /// fields. A front of its bytes was sent then, at `NoMemory` none.
@@ -31,7 +31,8 @@ pub fn write_request<L: Link>(
     write_message(alloc, link, &fields, tail_of_request(message))
 }
 
-/// Writes a reply. The answers are those of `write_request`.
+/// Writes a reply, whose session may be 0 only where it refuses or closes, and whose body has at most 16,777,216 bytes. The answers are
+/// those of `write_request`.
 pub fn write_reply<L: Link>(alloc: Global, link: &mut L, message: &Reply) -> Result<(), WriteStop>
     requires { message_fields.IsReply (reply_meant message.now) }
     ensures sends { Sends (meant.reply_bytes (reply_meant message.now)) (L.sent link.old) (L.sent link.new) result }
@@ -48,8 +49,8 @@ pub fn write_reply<L: Link>(alloc: Global, link: &mut L, message: &Reply) -> Res
 /// How many bytes of the last field are sent with the fields before it, at most.
 const JOINED: usize = 16_384;
 
-/// Writes the length of a body, its first fields, and its last one. So that a short message is sent at once, the first bytes of the last
-/// field go with the fields before it.
+/// Writes the length of a body, 16,777,216 at most, its first fields, and its last one. So that a short message is sent at once, the
+/// first bytes of the last field go with the fields before it.
 pub fn write_message<L: Link>(
     alloc: Global,
     link: &mut L,
@@ -100,7 +101,7 @@ fn request_head(alloc: Global, message: &Request) -> Result<Vec<u8>, AllocError>
             kept,
             ..
         } => {
-            put_start(&mut head, 1, *session)?;
+            put_start(&mut head, kinds::HELLO, *session)?;
             head.extend_from_slice(&program.0)?;
             head.extend_from_slice(&kept.to_be_bytes())?;
         }
@@ -110,15 +111,15 @@ fn request_head(alloc: Global, message: &Request) -> Result<Vec<u8>, AllocError>
             fuel,
             ..
         } => {
-            put_start(&mut head, 2, *session)?;
+            put_start(&mut head, kinds::CALL, *session)?;
             head.extend_from_slice(&role.to_be_bytes())?;
             head.extend_from_slice(&fuel.to_be_bytes())?;
         }
         Request::Go { rounds } => {
-            put_start(&mut head, 3, 0)?;
+            put_start(&mut head, kinds::GO, 0)?;
             head.extend_from_slice(&rounds.to_be_bytes())?;
         }
-        Request::Bye { session } => put_start(&mut head, 4, *session)?,
+        Request::Bye { session } => put_start(&mut head, kinds::BYE, *session)?,
     }
     Ok(head)
 }
@@ -129,11 +130,16 @@ fn reply_head(alloc: Global, message: &Reply) -> Result<Vec<u8>, AllocError>
 {
     let mut head = Vec::new(alloc);
     match message {
-        Reply::Welcome { session } => put_start(&mut head, 0x81, *session)?,
-        Reply::Proof { session, .. } => put_start(&mut head, 0x82, *session)?,
-        Reply::Stale { session, .. } => put_start(&mut head, 0x83, *session)?,
-        Reply::Refused { session, cause } => put_cause(&mut head, 0x84, *session, *cause)?,
-        Reply::Closed { session, cause } => put_cause(&mut head, 0x85, *session, *cause)?,
+        Reply::Welcome { session } => put_start(&mut head, kinds::WELCOME, *session)?,
+        Reply::Proof { session, .. } => put_start(&mut head, kinds::PROOF, *session)?,
+        Reply::Stale { session, .. } => put_start(&mut head, kinds::STALE, *session)?,
+        Reply::Refused { session, cause } => put_cause(
+            &mut head,
+            kinds::REFUSED,
+            *session,
+            *cause,
+        )?,
+        Reply::Closed { session, cause } => put_cause(&mut head, kinds::CLOSED, *session, *cause)?,
     }
     Ok(head)
 }

@@ -1,6 +1,6 @@
 -- spelled: what stands at a type, by the types that the code lends
 pub mod SpelledParts
--- is_verified_as_done: a file that is accepted is not refused, and the verifier tells what the ideal run comes to
+-- checked_call, verified: a file that is accepted is not refused, and the verifier tells what the ideal run comes to
 pub mod VerifiedFiles
 -- checked_call, put, get: what is called stands for a state and an argument
 pub mod CalledRoles

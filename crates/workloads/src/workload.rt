@@ -32,10 +32,10 @@ pub struct Workload {
     pub kept: u16,
 }
 
-/// Runs a workload from a state that stands among the prover's nodes: so many rounds (at most 100,000), each of a put with the next key
-/// and the next value, and a get with this key. Every call has 1,000,000 units of fuel, is proved, and its proof file is verified from
-/// the spellings. A put that ends with a value gives the new state; behind another the state stays as it is. It gives the sums over the
-/// calls and the node of the last state.
+/// Runs a workload from a state that stands among the prover's nodes of a store with the limit of the program's format: so many rounds
+/// (at most 100,000), each of a put with the next key and the next value, and a get with this key. Every call has 1,000,000 units of
+/// fuel, is proved, and its proof file is verified from the spellings. A put that ends with a value gives the new state; behind another
+/// the state stays as it is. It gives the sums over the calls and the node of the last state.
 ///
 /// The nodes that a get puts are dropped behind it, and so are those of a put that ends without a value. The generator starts with
 /// `seed`.

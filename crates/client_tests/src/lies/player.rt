@@ -4,14 +4,11 @@ use crate::wire::{link_with, request_bytes};
 use ask_core::reply_parts::session_of;
 use ask_core::{AskCore, AskFault};
 use core_stage::stage::{Stage, code_of};
-use core_terms::{Outcome, Spelling, Trap};
+use core_terms::{MOST_FUEL, Outcome, Spelling, Trap};
 use digest_layer::Sha;
 use lam_outside::MemLink;
 use std::alloc::{AllocError, Global};
 use wire_form::{ReadStop, Reply, Request, read_reply, read_request};
-
-/// The greatest fuel of a call.
-const MAX_FUEL: u64 = 1_000_000_000_000;
 
 /// What a client was told of the calls of each session, and what it sent.
 #[derive(Drop)]
@@ -98,7 +95,7 @@ impl Player {
                 fuel,
                 argument,
             } => {
-                let fuel = (*fuel).min(MAX_FUEL);
+                let fuel = (*fuel).min(MOST_FUEL);
                 let asked = self.core.call(*session, *role, fuel, argument.as_bytes());
                 (asked, Awaited::Nothing)
             }

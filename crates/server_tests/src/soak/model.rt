@@ -2,12 +2,9 @@
 ghost use Rattle.std.specs.Prelude.{◌<◌, length, IfSome};
 
 use crate::soak::trees::{DEPTH, LEAF, Trees};
-use core_terms::{Digest, FunctionId, Outcome, Program, RoleKind};
+use core_terms::{Digest, FunctionId, MOST_FUEL, Outcome, Program, RoleKind};
 use reference_run::{Plain, metered_run};
 use std::alloc::{AllocError, Global};
-
-/// The most fuel of a call.
-const MAX_FUEL: u64 = 1_000_000_000_000;
 
 /// A call that runs: how many calls of functions it makes, the tree that an update makes, what it opens, and the turns so far.
 #[derive(Drop)]
@@ -233,7 +230,7 @@ impl<'a> Model<'a> {
         let role = self.program.roles().get(usize::from(role)).ok_or(6)?;
         let pick = match role.kind {
             RoleKind::Init => return Err(6),
-            _ if fuel > MAX_FUEL => return Err(12),
+            _ if fuel > MOST_FUEL => return Err(12),
             RoleKind::Query => one_int(argument),
             RoleKind::Update => two_ints(argument),
         };

@@ -3,10 +3,10 @@ use Rattle.command_words.specs.Commands.{texts}
 use Rattle.command_words.specs.Invocations.{Invocation, invocation_of}
 use Rattle.command_words.specs.declared.command.Command.TheVariants.{Ask, Audit, Draw, Found, Host, Mirror, Prove, Replay, Serve}
 use Rattle.command_words.proofs.Judging.{refused_exactly}
-use Rattle.file_commands.specs.Answer.{answer}
-use Rattle.file_commands.specs.AuditedCalls.{TellsAnAudit}
-use Rattle.file_commands.specs.Ending.{IsOfFault}
-use Rattle.file_commands.specs.TrueLines.{TellsOutcome}
+use Rattle.command_parts.specs.Answer.{answer}
+use Rattle.call_commands.specs.AuditedCalls.{TellsAnAudit}
+use Rattle.command_parts.specs.Ending.{IsOfFault}
+use Rattle.call_commands.specs.TrueLines.{TellsOutcome}
 use Rattle.auth_cli.proofs.AnsweredRuns.{audited_run, prove_tells, proved_run, split_tells}
 use Rattle.auth_cli.proofs.Answered.{answered, fault_line, memory_line, part_written, stored, stored_first}
 use Rattle.auth_cli.proofs.AskTruths.{asked_truth}
@@ -14,8 +14,8 @@ use Rattle.auth_cli.proofs.Called.{refused_code}
 use Rattle.auth_cli.proofs.DrawTruths.{drawn_truth}
 use Rattle.auth_cli.proofs.NetRuns.{command_is_offline, fetched_run, reached_risen, run_calls, run_dials, run_fault, run_listens, run_offline, run_rose, run_writes, true_run}
 use Rattle.auth_cli.proofs.RunCounts.{AreBelow}
-use Rattle.file_commands.proofs.Possible.{collision_alone, usage_alone}
-use Rattle.file_commands.proofs.Reached.{read_fault_of_code}
+use Rattle.command_parts.proofs.Possible.{collision_alone, usage_alone}
+use Rattle.command_parts.proofs.Reached.{read_fault_of_code}
 use Rattle.auth_cli.proofs.top.run.Goals as goal
 
 pub returns-clause-ends : goal.returns-clause-ends

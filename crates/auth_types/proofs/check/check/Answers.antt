@@ -5,4 +5,4 @@ use Rattle.auth_types.proofs.check.check.Goals as goal
 
 pub returns-clause-answer : goal.returns-clause-answer
 unfolding checked
-returns-clause-answer c = checks_found (all_passes (program_of c.args.ast)) c.all_passes.result c.all_passes.ensures.answer
+returns-clause-answer c = checks_found (all_passes (program_of c.args.ast.now)) c.all_passes.result c.all_passes.ensures.answer

@@ -1,11 +1,11 @@
 use Rattle.command_words.specs.declared.command.Command.TheVariants.{Check}
-use Rattle.file_commands.specs.Answer.{checked_answer}
-use Rattle.file_commands.proofs.Ends.{ends_as, judging}
-use Rattle.file_commands.proofs.Possible.{found_possible, told_possible}
-use Rattle.file_commands.proofs.Words.{ends_apart, text_at}
+use Rattle.command_parts.specs.Answer.{checked_answer}
+use Rattle.command_parts.proofs.Ends.{ends_as, judging}
+use Rattle.command_parts.proofs.Possible.{found_possible, told_possible}
+use Rattle.command_parts.proofs.Words.{ends_apart, text_at}
 use Rattle.std.proofs.Common.{refl}
-use Rattle.file_commands.proofs.Reached.{told_reached}
-use Rattle.file_commands.proofs.Words.{reached_apart}
+use Rattle.command_parts.proofs.Reached.{told_reached}
+use Rattle.command_parts.proofs.Words.{reached_apart}
 use Rattle.file_commands.proofs.check_program.check_command.Goals as goal
 
 pub returns-clause-ends : goal.returns-clause-ends

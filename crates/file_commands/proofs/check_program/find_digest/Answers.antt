@@ -1,13 +1,13 @@
 use Rattle.std.proofs.Common.{Some}
 use Rattle.std.proofs.lemmas.Result.{err_from_is_err_and}
 use Rattle.printed_lines.specs.Lines.{ok_line}
-use Rattle.file_commands.specs.AnswerForms.{says}
-use Rattle.file_commands.specs.declared.status.Status.TheVariants.{Done}
-use Rattle.file_commands.proofs.Steps.{finds_halt}
-use Rattle.file_commands.specs.Answer.{checked_answer}
-use Rattle.file_commands.specs.FileInputs.{with_program_file}
+use Rattle.command_parts.specs.AnswerForms.{says}
+use Rattle.command_parts.specs.declared.status.Status.TheVariants.{Done}
+use Rattle.command_parts.proofs.Steps.{finds_halt}
+use Rattle.command_parts.specs.Answer.{checked_answer}
+use Rattle.command_parts.specs.FileInputs.{with_program_file}
 use Rattle.std.proofs.Common.{ap}
-use Rattle.file_commands.proofs.Reached.{faults_reached, is_missing}
+use Rattle.command_parts.proofs.Reached.{faults_reached, is_missing}
 use Rattle.file_commands.proofs.check_program.find_digest.Goals as goal
 
 pub returns-in_err-program-clause-finds : goal.returns-in_err-program-clause-finds

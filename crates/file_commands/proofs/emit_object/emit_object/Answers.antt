@@ -1,7 +1,7 @@
 use Rattle.std.proofs.Common.{Some, sym, ◌∙◌, subst}
-use Rattle.file_commands.specs.AnswerForms.{Answer}
-use Rattle.file_commands.specs.Halting.{InHand}
-use Rattle.file_commands.specs.Storing.{FindsOutput}
+use Rattle.command_parts.specs.AnswerForms.{Answer}
+use Rattle.command_parts.specs.Halting.{InHand}
+use Rattle.command_parts.specs.Storing.{FindsOutput}
 use Rattle.file_commands.proofs.WrittenOutputs.{first_answer}
 use Rattle.file_commands.proofs.emit_object.emit_object.Goals as goal
 

@@ -1,12 +1,12 @@
 use Rattle.std.proofs.Common.{List, ℕ, Option, Some, ap, sym, subst}
 use Rattle.std.proofs.lemmas.Result.{err_from_is_err_and}
-use Rattle.file_commands.specs.Answer.{emitted_answer, object_answer, with_listed_file}
-use Rattle.file_commands.specs.AnswerForms.{Answer}
-use Rattle.file_commands.specs.FueledRoles.{ListedProgram}
-use Rattle.file_commands.specs.ReadPrograms.{listed_of}
-use Rattle.file_commands.specs.Storing.{FindsOutput}
-use Rattle.file_commands.proofs.Reached.{faults_reached, is_missing, output_reached}
-use Rattle.file_commands.proofs.Steps.{hand_cause, hand_found, output_halt}
+use Rattle.command_parts.specs.Answer.{emitted_answer, object_answer, with_listed_file}
+use Rattle.command_parts.specs.AnswerForms.{Answer}
+use Rattle.command_parts.specs.FueledRoles.{ListedProgram}
+use Rattle.command_parts.specs.ReadPrograms.{listed_of}
+use Rattle.command_parts.specs.Storing.{FindsOutput}
+use Rattle.command_parts.proofs.Reached.{faults_reached, is_missing, output_reached}
+use Rattle.command_parts.proofs.Steps.{hand_cause, hand_found, output_halt}
 use Rattle.file_commands.proofs.emit_object.find_object.Goals as goal
 
 -- what stands behind the program

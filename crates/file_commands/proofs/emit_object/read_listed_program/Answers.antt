@@ -1,13 +1,14 @@
 use Rattle.std.proofs.Common.{◌≡◌, ◌≤◌, ℕ, false, List, length, ap, sym, ◌∙◌, subst}
 use Rattle.std.proofs.lemmas.Result.{err_from_is_err_and}
+use Rattle.core_terms.specs.Limits.{most_program_bytes}
 use Rattle.core_terms.specs.Programs.{meaning}
-use Rattle.file_commands.specs.Answer.{with_listed}
-use Rattle.file_commands.specs.FileInputs.{with_program_bytes}
-use Rattle.file_commands.specs.FilePrograms.{begins_as_object, max_program}
-use Rattle.file_commands.specs.ReadPrograms.{listed_of}
-use Rattle.file_commands.proofs.FileReadings.{text_fits}
-use Rattle.file_commands.proofs.PassedTrees.{text_is_written}
-use Rattle.file_commands.proofs.Steps.{halts_first}
+use Rattle.command_parts.specs.Answer.{with_listed}
+use Rattle.command_parts.specs.FileInputs.{with_program_bytes}
+use Rattle.command_parts.specs.FilePrograms.{begins_as_object}
+use Rattle.command_parts.specs.ReadPrograms.{listed_of}
+use Rattle.command_parts.proofs.FileReadings.{text_fits}
+use Rattle.command_parts.proofs.PassedTrees.{text_is_written}
+use Rattle.command_parts.proofs.Steps.{halts_first}
 use Rattle.file_commands.proofs.emit_object.read_listed_program.Goals as goal
 
 pub returns-in_err-bytes-clause-goes : goal.returns-in_err-bytes-clause-goes
@@ -19,7 +20,7 @@ pub read_program-requires : goal.read_program-requires
 read_program-requires g c =
     let bytes = c.in_ok-bytes.bytes.items in
     let begins : begins_as_object bytes ≡ false = ap begins_as_object (sym c.deref.ensures.value) ∙ sym c.begins_as_object.ensures ∙ c.if-begins_as_object.false in
-    subst (λ (text : List ℕ). length text ≤ max_program) (sym c.deref-2.ensures.value) (text_fits bytes begins c.in_ok-bytes.ensures.fits)
+    subst (λ (text : List ℕ). length text ≤ most_program_bytes) (sym c.deref-2.ensures.value) (text_fits bytes begins c.in_ok-bytes.ensures.fits)
 
 pub returns-clause-written : goal.returns-clause-written
 returns-clause-written g c = text_is_written c.deref-2.result.now (meaning c.in_ok-read_program.field-0) c.in_ok-read_program.ensures.answer

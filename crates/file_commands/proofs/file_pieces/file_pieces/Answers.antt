@@ -8,9 +8,9 @@ use Rattle.piece_mirror.specs.Filled.{all_added, pieces_in}
 use Rattle.piece_mirror.specs.FilledInCode.{IsProverState}
 use Rattle.piece_mirror.specs.Tables.{bytes_of}
 use Rattle.value_store.specs.Stores.{nodes_in}
-use Rattle.file_commands.specs.Answer.{pieces_answer, state_pieces}
-use Rattle.file_commands.specs.Halting.{InHand}
-use Rattle.file_commands.specs.Storing.{FindsOutput}
+use Rattle.command_parts.specs.Answer.{pieces_answer, state_pieces}
+use Rattle.command_parts.specs.Halting.{InHand}
+use Rattle.command_parts.specs.Storing.{FindsOutput}
 use Rattle.file_commands.proofs.file_pieces.file_pieces.Goals as goal
 
 pub fill-requires : goal.fill-requires

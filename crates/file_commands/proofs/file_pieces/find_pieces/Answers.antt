@@ -2,15 +2,15 @@ use Rattle.std.proofs.Common.{ℕ, List, Option, Some, refl, ap, sym, ◌∙◌,
 use Rattle.std.proofs.lemmas.Result.{err_from_is_err_and}
 use Rattle.core_terms.specs.Programs.{meaning}
 use Rattle.lam_outside.specs.Told.{Contents}
-use Rattle.file_commands.specs.Answer.{filed_answer, pieces_answer, state_pieces}
-use Rattle.file_commands.specs.FileInputs.{with_image_file, with_program_file}
-use Rattle.file_commands.specs.AnswerForms.{Answer}
-use Rattle.file_commands.specs.FueledRoles.{NamedProgram}
-use Rattle.file_commands.specs.ReadPrograms.{named_of}
-use Rattle.file_commands.specs.Reaching.{without}
-use Rattle.file_commands.specs.Storing.{FindsOutput}
-use Rattle.file_commands.proofs.Reached.{behind, faults_reached, is_missing, output_reached}
-use Rattle.file_commands.proofs.Steps.{halts_behind, hand_cause, hand_found, output_halt}
+use Rattle.command_parts.specs.Answer.{filed_answer, pieces_answer, state_pieces}
+use Rattle.command_parts.specs.FileInputs.{with_image_file, with_program_file}
+use Rattle.command_parts.specs.AnswerForms.{Answer}
+use Rattle.command_parts.specs.FueledRoles.{NamedProgram}
+use Rattle.command_parts.specs.ReadPrograms.{named_of}
+use Rattle.command_parts.specs.Reaching.{without}
+use Rattle.command_parts.specs.Storing.{FindsOutput}
+use Rattle.command_parts.proofs.Reached.{behind, faults_reached, is_missing, output_reached}
+use Rattle.command_parts.proofs.Steps.{halts_behind, hand_cause, hand_found, output_halt}
 use Rattle.file_commands.proofs.file_pieces.find_pieces.Goals as goal
 
 -- what stands behind the program

@@ -1,7 +1,7 @@
 use Rattle.std.proofs.Common.{ap, ◌∙◌}
 use Rattle.piece_mirror.specs.Tables.{bytes_of}
 use Rattle.printed_lines.specs.Lines.{pieces_line}
-use Rattle.file_commands.proofs.MirrorSteps.{file_refused, file_told}
+use Rattle.file_commands.proofs.MirrorOutputs.{file_refused, file_told}
 use Rattle.file_commands.proofs.file_pieces.mirror_output.Goals as goal
 
 pub returns-in_err-file-clause-finds : goal.returns-in_err-file-clause-finds

@@ -3,12 +3,12 @@ use Rattle.std.proofs.lemmas.Result.{err_from_is_err_and}
 use Rattle.ads_library.specs.Texts.{library_text}
 use Rattle.code_gen.specs.Programs.{program_in}
 use Rattle.code_gen.specs.declared.code.Code.{Code}
-use Rattle.file_commands.specs.WorkloadAnswers.{WorkloadNumbers, generated_by, with_numbers, with_source}
-use Rattle.file_commands.specs.FileInputs.{with_text}
-use Rattle.file_commands.specs.AnswerForms.{Answer}
+use Rattle.command_parts.specs.WorkloadAnswers.{WorkloadNumbers, generated_by, with_numbers, with_source}
+use Rattle.command_parts.specs.FileInputs.{with_text}
+use Rattle.command_parts.specs.AnswerForms.{Answer}
 use Rattle.file_commands.specs.GeneratedCalls.{numbers_of}
-use Rattle.file_commands.specs.ReadPrograms.{named_of}
-use Rattle.file_commands.proofs.LineSteps.{found_as, unfound}
+use Rattle.command_parts.specs.ReadPrograms.{named_of}
+use Rattle.command_parts.proofs.LineSteps.{found_as, unfound}
 use Rattle.file_commands.proofs.Workloads.{short_text}
 use Rattle.file_commands.proofs.gen_workload.find_sums.Goals as goal
 

@@ -1,11 +1,11 @@
 use Rattle.ads_library.specs.Texts.{library_text}
 use Rattle.command_words.specs.declared.command.Command.TheVariants.{Gen}
-use Rattle.file_commands.specs.WorkloadAnswers.{generated_by, with_numbers, with_source}
-use Rattle.file_commands.specs.FileInputs.{with_text}
-use Rattle.file_commands.specs.Halting.{FindsLines}
-use Rattle.file_commands.proofs.LineSteps.{hand_possible, lines_on_sink}
-use Rattle.file_commands.proofs.Possible.{told_possible}
-use Rattle.file_commands.proofs.Words.{sink_apart, text_at}
+use Rattle.command_parts.specs.WorkloadAnswers.{generated_by, with_numbers, with_source}
+use Rattle.command_parts.specs.FileInputs.{with_text}
+use Rattle.command_parts.specs.Halting.{FindsLines}
+use Rattle.command_parts.proofs.LineSteps.{hand_possible, lines_on_sink}
+use Rattle.command_parts.proofs.Possible.{told_possible}
+use Rattle.command_parts.proofs.Words.{sink_apart, text_at}
 use Rattle.file_commands.proofs.gen_workload.gen_command.Goals as goal
 
 pub returns-clause-ends : goal.returns-clause-ends

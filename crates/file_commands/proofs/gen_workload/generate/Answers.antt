@@ -2,18 +2,18 @@ use Rattle.std.proofs.Common.{◌≡◌, Some, Ok, sym, ◌∙◌, subst}
 use Rattle.std.proofs.lemmas.Result.{err_from_is_err_and}
 use Rattle.code_gen.specs.Programs.{program_in}
 use Rattle.core_terms.specs.Programs.{meaning}
-use Rattle.file_commands.specs.WorkloadAnswers.{generated_by, with_workload, workload_answer}
-use Rattle.file_commands.specs.OutcomeAnswers.{outcome_told}
-use Rattle.file_commands.specs.RoleInputs.{with_ended_init}
-use Rattle.file_commands.specs.AnswerForms.{says}
+use Rattle.command_parts.specs.WorkloadAnswers.{generated_by, with_workload, workload_answer}
+use Rattle.command_parts.specs.OutcomeAnswers.{outcome_told}
+use Rattle.command_parts.specs.RoleInputs.{with_ended_init}
+use Rattle.command_parts.specs.AnswerForms.{says}
 use Rattle.file_commands.specs.GeneratedCalls.{numbers_of}
-use Rattle.file_commands.specs.Halting.{FindsLines, InHand, ending_status}
-use Rattle.file_commands.specs.ReadPrograms.{named_of}
-use Rattle.file_commands.specs.RoleCalls.{kind_called, state_made}
-use Rattle.file_commands.specs.RolesCalled.{EndsIn, IsEnded, role_of}
-use Rattle.file_commands.specs.declared.roles.Callee.TheVariants.{Init}
+use Rattle.command_parts.specs.Halting.{FindsLines, InHand, ending_status}
+use Rattle.command_parts.specs.ReadPrograms.{named_of}
+use Rattle.command_parts.specs.RoleCalls.{kind_called, state_made}
+use Rattle.command_parts.specs.RolesCalled.{EndsIn, IsEnded, role_of}
+use Rattle.command_parts.specs.declared.roles.Callee.TheVariants.{Init}
 use Rattle.workloads.specs.declared.workload.Workload.{Workload}
-use Rattle.file_commands.proofs.LineSteps.{found_as, unfound, unfound_for}
+use Rattle.command_parts.proofs.LineSteps.{found_as, unfound, unfound_for}
 use Rattle.file_commands.proofs.Workloads.{behind_first, behind_roles, first_is, outcome_found, state_found}
 use Rattle.file_commands.proofs.gen_workload.generate.Goals as goal
 

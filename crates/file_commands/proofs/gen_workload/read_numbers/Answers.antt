@@ -2,13 +2,13 @@ use Rattle.std.proofs.Common.{ℕ, List, Option, ◌∙◌}
 use Rattle.std.proofs.lemmas.Result.{err_from_is_err_and}
 use Rattle.core_terms.specs.ProgramFormats.{most_kept_pieces}
 use Rattle.printed_lines.specs.declared.refusal.Argument.TheVariants.{Seed, Count, Number}
-use Rattle.file_commands.specs.WorkloadAnswers.{WorkloadNumbers, with_numbers}
-use Rattle.file_commands.specs.FileInputs.{with_number}
-use Rattle.file_commands.specs.AnswerForms.{Answer}
-use Rattle.file_commands.specs.Arguments.{most_rounds, most_seed}
+use Rattle.command_parts.specs.WorkloadAnswers.{WorkloadNumbers, with_numbers}
+use Rattle.command_parts.specs.FileInputs.{with_number}
+use Rattle.command_parts.specs.AnswerForms.{Answer}
+use Rattle.command_parts.specs.Arguments.{most_rounds, most_seed}
 use Rattle.number_words.specs.Numbers.{number_within}
 use Rattle.file_commands.specs.GeneratedCalls.{numbers_of}
-use Rattle.file_commands.proofs.LineSteps.{first_halts, goes_as}
+use Rattle.command_parts.proofs.LineSteps.{first_halts, goes_as}
 use Rattle.file_commands.proofs.gen_workload.read_numbers.Goals as goal
 
 -- the steps

@@ -1,5 +1,5 @@
 use Rattle.std.proofs.Common.{[], ◌++◌, ap, ◌∙◌}
-use Rattle.file_commands.specs.ReadPrograms.{named_of}
+use Rattle.command_parts.specs.ReadPrograms.{named_of}
 use Rattle.file_commands.proofs.Workloads.{sums_told}
 use Rattle.file_commands.proofs.gen_workload.sums_report.Goals as goal
 

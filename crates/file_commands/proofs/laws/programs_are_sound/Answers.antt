@@ -1,4 +1,4 @@
-use Rattle.file_commands.proofs.SoundFiles.{file_is_sound, text_is_sound}
+use Rattle.command_parts.proofs.SoundFiles.{file_is_sound, text_is_sound}
 use Rattle.file_commands.proofs.laws.programs_are_sound.Goals as goal
 
 pub returns : goal.returns

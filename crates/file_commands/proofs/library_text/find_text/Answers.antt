@@ -1,6 +1,6 @@
 use Rattle.std.proofs.lemmas.Result.{err_from_is_err_and}
 use Rattle.command_words.specs.declared.command.Command.TheVariants.{Library}
-use Rattle.file_commands.proofs.Possible.{halted_possible}
+use Rattle.command_parts.proofs.Possible.{halted_possible}
 use Rattle.file_commands.proofs.library_text.find_text.Goals as goal
 
 pub returns-in_err-source-clause-possible : goal.returns-in_err-source-clause-possible

@@ -1,12 +1,12 @@
 use Rattle.std.proofs.Common.{Some}
 use Rattle.ads_library.specs.Texts.{library_text}
 use Rattle.command_words.specs.declared.command.Command.TheVariants.{Library}
-use Rattle.file_commands.specs.WorkloadAnswers.{with_source}
-use Rattle.file_commands.specs.AnswerForms.{says}
-use Rattle.file_commands.specs.declared.status.Status.TheVariants.{Done}
-use Rattle.file_commands.proofs.Ends.{ends_on_sink}
-use Rattle.file_commands.proofs.Possible.{told_possible}
-use Rattle.file_commands.proofs.Words.{sink_apart, text_at}
+use Rattle.command_parts.specs.WorkloadAnswers.{with_source}
+use Rattle.command_parts.specs.AnswerForms.{says}
+use Rattle.command_parts.specs.declared.status.Status.TheVariants.{Done}
+use Rattle.command_parts.proofs.Ends.{ends_on_sink}
+use Rattle.command_parts.proofs.Possible.{told_possible}
+use Rattle.command_parts.proofs.Words.{sink_apart, text_at}
 use Rattle.file_commands.proofs.library_text.library_command.Goals as goal
 
 pub returns-clause-ends : goal.returns-clause-ends

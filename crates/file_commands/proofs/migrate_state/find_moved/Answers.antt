@@ -4,15 +4,15 @@ use Rattle.core_terms.specs.Programs.{meaning}
 use Rattle.core_terms.specs.Values.{Value}
 use Rattle.images.specs.Images.{Root, image_of}
 use Rattle.printed_lines.specs.declared.refusal.Argument.TheVariants as named
-use Rattle.file_commands.specs.Answer.{migrated_answer, migration_fault, moved_answer}
-use Rattle.file_commands.specs.FileInputs.{with_declared_file, with_image}
-use Rattle.file_commands.specs.AnswerForms.{Answer}
-use Rattle.file_commands.specs.ReadPrograms.{declared_of, digested_of, named_of}
-use Rattle.file_commands.specs.Reaching.{without}
-use Rattle.file_commands.specs.Storing.{FindsOutput}
+use Rattle.command_parts.specs.Answer.{migrated_answer, migration_fault, moved_answer}
+use Rattle.command_parts.specs.FileInputs.{with_declared_file, with_image}
+use Rattle.command_parts.specs.AnswerForms.{Answer}
+use Rattle.command_parts.specs.ReadPrograms.{declared_of, digested_of, named_of}
+use Rattle.command_parts.specs.Reaching.{without}
+use Rattle.command_parts.specs.Storing.{FindsOutput}
 use Rattle.file_commands.proofs.MovedStates.{behind_both, behind_one, bytes_then_state, comes_to_image, keeps_states, without_image}
-use Rattle.file_commands.proofs.Reached.{behind, faults_reached, is_missing, output_reached}
-use Rattle.file_commands.proofs.Steps.{halts_behind, hand_cause, hand_found, image_goes, output_halt}
+use Rattle.command_parts.proofs.Reached.{behind, faults_reached, is_missing, output_reached}
+use Rattle.command_parts.proofs.Steps.{halts_behind, hand_cause, hand_found, image_goes, output_halt}
 use Rattle.file_commands.proofs.migrate_state.find_moved.Goals as goal
 
 pub returns-in_err-from-clause-finds : goal.returns-in_err-from-clause-finds

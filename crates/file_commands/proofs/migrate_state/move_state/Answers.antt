@@ -11,18 +11,18 @@ use Rattle.value_store.specs.Markings.{HasLimit}
 use Rattle.value_store.specs.Stores.{nodes_in, store_lent}
 use Rattle.value_store.proofs.ProverNodes.{shown_ideal}
 use Rattle.images.specs.LoadedRoots.{IsStateAt}
-use Rattle.file_commands.specs.Answer.{moved_answer}
-use Rattle.file_commands.specs.OutcomeAnswers.{projected_line}
-use Rattle.file_commands.specs.AnswerForms.{says}
-use Rattle.file_commands.specs.ReadPrograms.{digested_of, named_of}
-use Rattle.file_commands.specs.Statuses.{MayAnswer}
-use Rattle.file_commands.specs.StoredStates.{IsStoredState}
-use Rattle.file_commands.specs.declared.status.Status.TheVariants.{Done}
-use Rattle.file_commands.proofs.MarkedStates.{saved_by_types}
-use Rattle.file_commands.proofs.Ends.{one_line}
+use Rattle.command_parts.specs.Answer.{moved_answer}
+use Rattle.command_parts.specs.OutcomeAnswers.{projected_line}
+use Rattle.command_parts.specs.AnswerForms.{says}
+use Rattle.command_parts.specs.ReadPrograms.{digested_of, named_of}
+use Rattle.command_parts.specs.Statuses.{MayAnswer}
+use Rattle.command_parts.specs.StoredStates.{IsStoredState}
+use Rattle.command_parts.specs.declared.status.Status.TheVariants.{Done}
+use Rattle.command_parts.proofs.MarkedStates.{saved_by_types}
+use Rattle.command_parts.proofs.Ends.{one_line}
 use Rattle.file_commands.proofs.MovedImages.{has_header}
 use Rattle.file_commands.proofs.MovedStates.{not_loaded, of_root}
-use Rattle.file_commands.proofs.StoredOutputs.{storing_refused, storing_told}
+use Rattle.command_parts.proofs.StoredOutputs.{storing_refused, storing_told}
 use Rattle.file_commands.proofs.migrate_state.move_state.Goals as goal
 
 pub address-requires : goal.address-requires

@@ -1,16 +1,16 @@
 use Rattle.std.proofs.Common.{Some, ◌∙◌}
 use Rattle.std.proofs.lemmas.Result.{err_from_is_err_and}
-use Rattle.file_commands.specs.OutcomeAnswers.{state_answer}
-use Rattle.file_commands.specs.FileInputs.{with_image_file, with_program_file}
-use Rattle.file_commands.specs.ReadPrograms.{named_of}
-use Rattle.file_commands.proofs.Steps.{halts_behind, output_halt}
+use Rattle.command_parts.specs.OutcomeAnswers.{state_answer}
+use Rattle.command_parts.specs.FileInputs.{with_image_file, with_program_file}
+use Rattle.command_parts.specs.ReadPrograms.{named_of}
+use Rattle.command_parts.proofs.Steps.{halts_behind, output_halt}
 use Rattle.std.proofs.Common.{ap, refl, ℕ, List, Option}
 use Rattle.lam_outside.specs.Told.{Contents}
-use Rattle.file_commands.specs.Answer.{spelled_answer}
-use Rattle.file_commands.specs.AnswerForms.{Answer}
-use Rattle.file_commands.specs.FueledRoles.{NamedProgram}
-use Rattle.file_commands.specs.Reaching.{without}
-use Rattle.file_commands.proofs.Reached.{behind, faults_reached, is_missing}
+use Rattle.command_parts.specs.Answer.{spelled_answer}
+use Rattle.command_parts.specs.AnswerForms.{Answer}
+use Rattle.command_parts.specs.FueledRoles.{NamedProgram}
+use Rattle.command_parts.specs.Reaching.{without}
+use Rattle.command_parts.proofs.Reached.{behind, faults_reached, is_missing}
 use Rattle.file_commands.proofs.shallow_state.find_state.Goals as goal
 
 pub returns-in_err-program-clause-finds : goal.returns-in_err-program-clause-finds

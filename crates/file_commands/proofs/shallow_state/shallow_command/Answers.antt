@@ -1,10 +1,10 @@
 use Rattle.command_words.specs.declared.command.Command.TheVariants.{Shallow}
-use Rattle.file_commands.specs.Answer.{spelled_answer}
-use Rattle.file_commands.proofs.EndsStored.{ends_stored}
-use Rattle.file_commands.proofs.Possible.{output_possible, stored_possible}
-use Rattle.file_commands.proofs.Words.{ends_apart, text_at}
-use Rattle.file_commands.proofs.Reached.{stored_reached}
-use Rattle.file_commands.proofs.Words.{reached_apart}
+use Rattle.command_parts.specs.Answer.{spelled_answer}
+use Rattle.command_parts.proofs.EndsStored.{ends_stored}
+use Rattle.command_parts.proofs.Possible.{output_possible, stored_possible}
+use Rattle.command_parts.proofs.Words.{ends_apart, text_at}
+use Rattle.command_parts.proofs.Reached.{stored_reached}
+use Rattle.command_parts.proofs.Words.{reached_apart}
 use Rattle.file_commands.proofs.shallow_state.shallow_command.Goals as goal
 
 pub returns-clause-ends : goal.returns-clause-ends

@@ -12,9 +12,9 @@ use Rattle.value_store.specs.Stores.{nodes_in}
 use Rattle.value_store.proofs.StandingNodes.{within_stands}
 use Rattle.value_store.proofs.TypedNodes.{ideal_stands, prover_refers}
 use Rattle.shallow_codec.specs.ProgramTypes.{table, ty_of}
-use Rattle.file_commands.specs.ReadPrograms.{named_of}
-use Rattle.file_commands.proofs.MarkedStates.{projected}
-use Rattle.file_commands.proofs.StateOutputs.{state_output}
+use Rattle.command_parts.specs.ReadPrograms.{named_of}
+use Rattle.command_parts.proofs.MarkedStates.{projected}
+use Rattle.command_parts.proofs.StateOutputs.{state_output}
 use Rattle.file_commands.proofs.shallow_state.spell_state.Goals as goal
 
 pub spell-requires : goal.spell-requires

@@ -5,12 +5,12 @@ use Rattle.core_terms.specs.RoleViews.{role_kind_of}
 use Rattle.core_terms.specs.TypeTables.{type_at}
 use Rattle.core_terms.specs.declared.program.FunctionId.{FunctionId}
 use Rattle.core_terms.specs.declared.roles.Role.{Role}
-use Rattle.file_commands.specs.WorkloadAnswers.{is_get, with_shape, with_shaped_role}
-use Rattle.file_commands.specs.RoleInputs.{with_role}
-use Rattle.file_commands.specs.Halting.{StepGives, InHand}
-use Rattle.file_commands.specs.declared.roles.Callee.TheVariants.{OfState}
-use Rattle.file_commands.proofs.LineSteps.{first_halts}
-use Rattle.file_commands.proofs.RoleShapes.{calls_reads}
+use Rattle.command_parts.specs.WorkloadAnswers.{is_get, with_shape, with_shaped_role}
+use Rattle.command_parts.specs.RoleInputs.{with_role}
+use Rattle.command_parts.specs.Halting.{StepGives, InHand}
+use Rattle.command_parts.specs.declared.roles.Callee.TheVariants.{OfState}
+use Rattle.command_parts.proofs.LineSteps.{first_halts}
+use Rattle.command_parts.proofs.RoleShapes.{calls_reads}
 use Rattle.file_commands.proofs.WorkloadRoles.{get_shape, shape_goes, shape_refused}
 use Rattle.file_commands.proofs.workload_roles.get_role.Goals as goal
 

@@ -3,10 +3,10 @@ use Rattle.std.proofs.lemmas.Result.{err_from_is_err_and}
 use Rattle.core_terms.specs.Programs.{meaning}
 use Rattle.core_terms.specs.Terms.{Program}
 use Rattle.core_terms.specs.declared.program.FunctionId.{FunctionId}
-use Rattle.file_commands.specs.WorkloadAnswers.{is_get, is_put, keys_of, with_shaped_role, with_workload}
-use Rattle.file_commands.specs.AnswerForms.{Answer}
+use Rattle.command_parts.specs.WorkloadAnswers.{is_get, is_put, keys_of, with_shaped_role, with_workload}
+use Rattle.command_parts.specs.AnswerForms.{Answer}
 use Rattle.workloads.specs.declared.workload.Workload.{Workload}
-use Rattle.file_commands.proofs.LineSteps.{first_halts, goes_as}
+use Rattle.command_parts.proofs.LineSteps.{first_halts, goes_as}
 use Rattle.file_commands.proofs.workload_roles.workload_of.Goals as goal
 
 -- the steps

@@ -1,16 +1,16 @@
 use Rattle.std.proofs.Common.{◌≡◌, ℕ, List, Option, Some, None, refl, ap, inl, ◌∙◌, subst}
 use Rattle.code_gen.specs.Programs.{program_in}
 use Rattle.lam_outside.specs.Told.{Contents}
-use Rattle.file_commands.specs.Answer.{unfounded_answer}
-use Rattle.file_commands.specs.FileInputs.{with_image_bytes, with_program_file}
-use Rattle.file_commands.specs.AnswerForms.{Answer}
-use Rattle.file_commands.specs.FueledRoles.{NamedProgram}
-use Rattle.file_commands.specs.Halting.{HaltsAs, MayHalt}
-use Rattle.file_commands.specs.ReadPrograms.{digested_of, named_of}
-use Rattle.file_commands.specs.Reaching.{without}
-use Rattle.file_commands.proofs.Reached.{behind, is_missing}
+use Rattle.command_parts.specs.UnansweredInCode.{unfounded_answer}
+use Rattle.command_parts.specs.FileInputs.{with_image_bytes, with_program_file}
+use Rattle.command_parts.specs.AnswerForms.{Answer}
+use Rattle.command_parts.specs.FueledRoles.{NamedProgram}
+use Rattle.command_parts.specs.Halting.{HaltsAs, MayHalt}
+use Rattle.command_parts.specs.ReadPrograms.{digested_of, named_of}
+use Rattle.command_parts.specs.Reaching.{without}
+use Rattle.command_parts.proofs.Reached.{behind, is_missing}
 use Rattle.journal_commands.specs.DisksSeen.{disk_seen, file_in}
-use Rattle.journal_commands.specs.Founding.{founding_of}
+use Rattle.journal_commands.specs.FoundingInCode.{founding_of}
 use Rattle.journal_commands.specs.JournalAnswers.{founded_answer, making_answer}
 use Rattle.journal_commands.proofs.CountsOnDisk.{halted_at, reached_from}
 use Rattle.journal_commands.proofs.JournalsMade.{found_on, halted_made, left_so, made_as, means_founding, unchosen}

@@ -1,8 +1,8 @@
 use Rattle.std.proofs.Common.{Err, refl}
 use Rattle.command_words.specs.declared.command.Command.TheVariants.{Found}
-use Rattle.file_commands.specs.Outsides.{outside}
-use Rattle.file_commands.proofs.Possible.{found_possible, told_possible}
-use Rattle.file_commands.proofs.Words.{text_at}
+use Rattle.command_parts.specs.Outsides.{outside}
+use Rattle.command_parts.proofs.Possible.{found_possible, told_possible}
+use Rattle.command_parts.proofs.Words.{text_at}
 use Rattle.journal_commands.specs.DisksSeen.{disk_seen, file_on}
 use Rattle.journal_commands.specs.JournalAnswers.{founded_answer}
 use Rattle.journal_commands.proofs.CountsOnDisk.{either_apart, halt_counts, halt_leaves, not_done}

@@ -1,5 +1,5 @@
 use Rattle.code_gen.specs.Programs.{program_in}
-use Rattle.file_commands.specs.ReadPrograms.{digested_of}
+use Rattle.command_parts.specs.ReadPrograms.{digested_of}
 use Rattle.journal_commands.proofs.JournalsOpened.{fault_opens, opened_named}
 use Rattle.journal_commands.proofs.StopCauses.{is_err}
 use Rattle.journal_commands.proofs.opened.open_named.Goals as goal

@@ -1,13 +1,13 @@
 use Rattle.std.proofs.Common.{ℕ, List, Option, Some, None, Err, refl, ap, ◌∙◌}
 use Rattle.code_gen.specs.Programs.{program_in}
 use Rattle.session_meaning.specs.Server.{Shared}
-use Rattle.file_commands.specs.Answer.{unreplayed_answer}
-use Rattle.file_commands.specs.FileInputs.{with_program_file}
-use Rattle.file_commands.specs.AnswerForms.{Answer}
-use Rattle.file_commands.specs.FueledRoles.{DigestedProgram, NamedProgram}
-use Rattle.file_commands.specs.ReadPrograms.{digested_of}
-use Rattle.file_commands.proofs.Reached.{is_missing}
-use Rattle.file_commands.proofs.Steps.{hand_cause, hand_found}
+use Rattle.command_parts.specs.UnansweredInCode.{unreplayed_answer}
+use Rattle.command_parts.specs.FileInputs.{with_program_file}
+use Rattle.command_parts.specs.AnswerForms.{Answer}
+use Rattle.command_parts.specs.FueledRoles.{DigestedProgram, NamedProgram}
+use Rattle.command_parts.specs.ReadPrograms.{digested_of}
+use Rattle.command_parts.proofs.Reached.{is_missing}
+use Rattle.command_parts.proofs.Steps.{hand_cause, hand_found}
 use Rattle.journal_commands.specs.DisksSeen.{disk_seen, file_in}
 use Rattle.journal_commands.specs.JournalAnswers.{last_answer, replayed_answer, with_journal}
 use Rattle.journal_commands.specs.declared.stop.DiskStop.TheVariants.{Halts}

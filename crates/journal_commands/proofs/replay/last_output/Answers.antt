@@ -3,10 +3,10 @@ use Rattle.code_gen.specs.Programs.{program_in}
 use Rattle.core_terms.specs.declared.program.Program.{Program}
 use Rattle.printed_lines.specs.Lines.{versions_line}
 use Rattle.value_store.specs.declared.node.Ref.{Ref}
-use Rattle.file_commands.specs.AnswerForms.{says}
-use Rattle.file_commands.specs.ReadPrograms.{digested_of}
-use Rattle.file_commands.specs.declared.status.Status.TheVariants.{Done}
-use Rattle.file_commands.proofs.StoredOutputs.{storing_refused, storing_told}
+use Rattle.command_parts.specs.AnswerForms.{says}
+use Rattle.command_parts.specs.ReadPrograms.{digested_of}
+use Rattle.command_parts.specs.declared.status.Status.TheVariants.{Done}
+use Rattle.command_parts.proofs.StoredOutputs.{storing_refused, storing_told}
 use Rattle.journal_commands.specs.JournalAnswers.{last_of}
 use Rattle.journal_commands.proofs.LastVersions.{last_is_saved, last_is_state, last_line}
 use Rattle.journal_commands.proofs.replay.last_output.Goals as goal

@@ -1,12 +1,12 @@
 use Rattle.std.proofs.Common.{Result, Ok, Err, refl, ◌∙◌}
 use Rattle.command_words.specs.Commands.{texts}
 use Rattle.command_words.specs.declared.command.Command.TheVariants.{Replay}
-use Rattle.file_commands.specs.Answer.{answer_with}
-use Rattle.file_commands.specs.Outsides.{outside}
-use Rattle.file_commands.specs.declared.report.Halt.{Halt}
-use Rattle.file_commands.specs.declared.report.Output.{Output}
-use Rattle.file_commands.proofs.Possible.{output_possible, stored_possible}
-use Rattle.file_commands.proofs.Words.{text_at}
+use Rattle.command_parts.specs.Answer.{answer_with}
+use Rattle.command_parts.specs.Outsides.{outside}
+use Rattle.command_parts.specs.declared.report.Halt.{Halt}
+use Rattle.command_parts.specs.declared.report.Output.{Output}
+use Rattle.command_parts.proofs.Possible.{output_possible, stored_possible}
+use Rattle.command_parts.proofs.Words.{text_at}
 use Rattle.journal_commands.specs.DisksSeen.{disk_seen, file_on}
 use Rattle.journal_commands.specs.JournalAnswers.{replayed_answer}
 use Rattle.journal_commands.specs.declared.stop.DiskStop.{DiskStop}

@@ -3,7 +3,7 @@ use Rattle.lam_outside.proofs.Waiting.{none_read}
 use Rattle.piece_mirror.specs.Answers.{given_by}
 use Rattle.piece_mirror.specs.Tables.{bytes_of}
 use Rattle.wire_form.proofs.Moving.{moves_on}
-use Rattle.link_ends.specs.declared.halt.Halt.TheVariants as halt
+use Rattle.link_ends.specs.declared.link_stop.LinkStop.TheVariants as link_stop
 use Rattle.link_ends.proofs.Taken.{none_moved}
 use Rattle.mirror_links.proofs.SoFar.{answered_at, at_first, fault_now, lacking_now, one_more, over_at_last, over_now, waits_more}
 use Rattle.mirror_links.proofs.connection.answer_link.Goals as goal
@@ -69,7 +69,7 @@ returns-in-Err-LinkFault-clause-answered g c = λ bytes told.
     let before = c.loop.link in
     let behind = c.answer_message.new.link in
     let so_far = c.loop.invariant.answered bytes told in
-    let last = answered_at get so_far.takes.0 (g.L.Source.left behind) (g.L.Source.sent before) (g.L.Source.sent behind) (Err c.in-Err-LinkFault.field-0) (Err halt.LinkFault)
+    let last = answered_at get so_far.takes.0 (g.L.Source.left behind) (g.L.Source.sent before) (g.L.Source.sent behind) (Err c.in-Err-LinkFault.field-0) (Err link_stop.LinkFault)
     (ap Err c.in-Err-LinkFault.field-0-is) (c.in-Err-LinkFault.ensures.answered so_far.takes.0 so_far.takes.2) in
     fault_now get c.loop.counter bytes (g.L.Source.left before) (g.L.Source.sent first) (g.L.Source.sent before) so_far c.loop-test.true (g.L.Source.left behind) (g.L.Source.sent behind) last
 
@@ -92,7 +92,7 @@ returns-in-Err-Stopped-clause-answered g c = λ bytes told.
     let before = c.loop.link in
     let behind = c.answer_message.new.link in
     let so_far = c.loop.invariant.answered bytes told in
-    let last = answered_at get so_far.takes.0 (g.L.Source.left behind) (g.L.Source.sent before) (g.L.Source.sent behind) (Err c.in-Err-Stopped.field-0) (Err halt.Stopped)
+    let last = answered_at get so_far.takes.0 (g.L.Source.left behind) (g.L.Source.sent before) (g.L.Source.sent behind) (Err c.in-Err-Stopped.field-0) (Err link_stop.Stopped)
     (ap Err c.in-Err-Stopped.field-0-is) (c.in-Err-Stopped.ensures.answered so_far.takes.0 so_far.takes.2) in
     lacking_now get c.loop.counter bytes (g.L.Source.left before) (g.L.Source.sent first) (g.L.Source.sent before) so_far c.loop-test.true (g.L.Source.left behind) (g.L.Source.sent behind) last
 

@@ -2,7 +2,7 @@ use Rattle.std.proofs.Common.{◌≡◌, ◌||◌, ap, sym, subst, ◌∙◌, Er
 use Rattle.lam_outside.specs.Links.{links_so_far}
 use Rattle.piece_mirror.specs.Answers.{given_by}
 use Rattle.piece_mirror.specs.Tables.{bytes_of}
-use Rattle.link_ends.specs.declared.halt.Halt.TheVariants as halt
+use Rattle.link_ends.specs.declared.link_stop.LinkStop.TheVariants as link_stop
 use Rattle.link_ends.proofs.FaultsTold.{IsFaultTold, fault_told, or_none, or_one, rose_at}
 use Rattle.mirror_links.proofs.Links.{link_in_part, link_more, next_at, no_more}
 use Rattle.mirror_links.proofs.net.answer_links.Goals as goal
@@ -19,7 +19,7 @@ returns-in-Err-Stopped-clause-answered g c = λ port listening after is.
     let told_now = links_so_far (g.N.Net.ended now) (g.N.Net.linked now) (g.N.Source.given now) (g.N.Source.left now) (g.N.Source.sent now) (g.N.Source.reads now) in
     let told_new = links_so_far (g.N.Net.ended new) (g.N.Net.linked new) (g.N.Source.given new) (g.N.Source.left new) (g.N.Source.sent new) (g.N.Source.reads new) in
     link_in_part get port told_old told_now after c.loop.link_fault c.loop.counter c.args.connections c.loop-test.true (λ links' are. loop.answered port listening links' are)
-    (next_at get port told_now told_new (Err c.in-Err-Stopped.field-0) (Err halt.Stopped) (ap Err c.in-Err-Stopped.field-0-is)
+    (next_at get port told_now told_new (Err c.in-Err-Stopped.field-0) (Err link_stop.Stopped) (ap Err c.in-Err-Stopped.field-0-is)
     (c.in-Err-Stopped.ensures.answered port (loop.listened ∙ listening)) after is)
 
 pub returns-in-Err-LinkFault-clause-answered : goal.returns-in-Err-LinkFault-clause-answered
@@ -32,7 +32,7 @@ returns-in-Err-LinkFault-clause-answered g c = λ port listening after is.
     let told_old = links_so_far (g.N.Net.ended old) (g.N.Net.linked old) (g.N.Source.given old) (g.N.Source.left old) (g.N.Source.sent old) (g.N.Source.reads old) in
     let told_now = links_so_far (g.N.Net.ended now) (g.N.Net.linked now) (g.N.Source.given now) (g.N.Source.left now) (g.N.Source.sent now) (g.N.Source.reads now) in
     let told_new = links_so_far (g.N.Net.ended new) (g.N.Net.linked new) (g.N.Source.given new) (g.N.Source.left new) (g.N.Source.sent new) (g.N.Source.reads new) in
-    let same = next_at get port told_now told_new (Err c.in-Err-LinkFault.field-0) (Err halt.LinkFault) (ap Err c.in-Err-LinkFault.field-0-is)
+    let same = next_at get port told_now told_new (Err c.in-Err-LinkFault.field-0) (Err link_stop.LinkFault) (ap Err c.in-Err-LinkFault.field-0-is)
     (c.in-Err-LinkFault.ensures.answered port (loop.listened ∙ listening)) in
     no_more get port told_old after c.loop.link_fault c.loop.counter c.args.connections
     (g.N.Net.accept_faults old) (g.N.Net.accept_faults now) (g.N.Net.accept_faults new) c.loop-test.true loop.accepts

@@ -10,8 +10,8 @@ use Rattle.script_play.specs.PlayingInCode.{ClientAnswers, IsAnswered, PlayCause
 use Rattle.script_play.proofs.Asked.{asked_told, asked_unsent, fault_answered, fault_sends, is_answered, plays_err}
 use Rattle.script_play.proofs.HaltedLines.{request_halts}
 use Rattle.script_play.proofs.Steps.{cause_err}
-use Rattle.script_play.specs.declared.halt.Halt.{Halt}
-use Rattle.script_play.specs.declared.halt.Halt.TheVariants.{NoMemory}
+use Rattle.script_play.specs.declared.play_stop.PlayStop.{PlayStop}
+use Rattle.script_play.specs.declared.play_stop.PlayStop.TheVariants.{NoMemory}
 use Rattle.script_play.proofs.Worlds.{nothing_done}
 use Rattle.script_play.proofs.asking.ask.Goals as goal
 
@@ -95,6 +95,6 @@ returns-in_err-send-in-Ok-clause-halts g c P names t ms answers =
     let sent' = g.L.Source.sent c.send.new.link in
     let written = g.O.Sink.written c.args.out.now in
     let here = subst (λ r. ClientAnswers (λ x. Unit {0}) t r) c.in-Ok.is answers in
-    gives_with (λ (r : Result Bool Halt). OnLinkFault r (HaltsAt P names (world sent written c.args.last.now) (world sent' written c.args.last.now) (asked_play t c.args.session ms rests).deeds))
+    gives_with (λ (r : Result Bool PlayStop). OnLinkFault r (HaltsAt P names (world sent written c.args.last.now) (world sent' written c.args.last.now) (asked_play t c.args.session ms rests).deeds))
     halt _ c.from_residual.ensures.1
     (request_halts P names Bool t.answer t.client c.args.session ms (request_meant c.in-Ok.request) sent sent' written c.args.last.now halt here.0 c.in_err-send-in-Ok.ensures.sends)

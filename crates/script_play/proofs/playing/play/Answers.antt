@@ -11,9 +11,9 @@ use Rattle.wire_form.proofs.Moving.{moves_on}
 use Rattle.ask_core.specs.Sessions.{StandsFor}
 use Rattle.ask_script.specs.ScriptAnswers.{step_meant}
 use Rattle.ask_script.specs.Scripts.{Fits}
-use Rattle.script_play.specs.HaltingInCode.{PlaysTo}
+use Rattle.script_play.specs.PlayedInCode.{IsPlayed}
 use Rattle.script_play.specs.Plays.{play, play_step}
-use Rattle.script_play.specs.Playing.{PlaysAs, world}
+use Rattle.script_play.specs.Playing.{world}
 use Rattle.script_play.specs.PlayingInCode.{names_of, own_of}
 use Rattle.script_play.specs.Prompt.{IsPromptOn}
 use Rattle.script_play.proofs.Awaited.{prompt_more}
@@ -74,9 +74,9 @@ loop-step-preserved g c =
           (play_step hash P own c.args.state.now (step_meant step) far.client far.coming)
           (line_next hash P own c.args.state.now steps i step c.loop-step-test.true c.step-item.is far.client far.coming)
           (StandsFor new) left later (tt {0})
-          (subst (λ k. PlaysAs (program_of k) (names_of k) {T = Unit {0}} (StandsFor new) left here later
-          (play_step hash (program_of k) (own_of k) c.args.state.now (step_meant step) far.client far.coming) (Ok (tt {0}))) before.code
-          (c.in_ok-play_step.ensures.plays far.client far.coming far.stands far.comes));
+          ((subst (λ k. IsPlayed k (StandsFor new) (g.L.Source.left c.loop-step.link) left here later
+          (play_step hash (program_of k) (own_of k) c.args.state.now (step_meant step) far.client) (Ok (tt {0}))) before.code
+          (c.in_ok-play_step.ensures.played far.client far.stands)).plays far.coming far.comes);
       far_to = λ m bytes is told.
           let far = before.far_to m bytes is told in
           goes_on_to P (names_of code) (StandsFor c.loop-step.core) bytes (g.L.Source.left c.loop-step.link) first here
@@ -84,9 +84,9 @@ loop-step-preserved g c =
           (play hash P own c.args.state.now (map step_meant (drop (i + 1) steps))) (play_step hash P own c.args.state.now (step_meant step) far.client)
           (λ ms. line_next hash P own c.args.state.now steps i step c.loop-step-test.true c.step-item.is far.client ms)
           (StandsFor new) left later
-          (subst (λ k. PlaysTo (program_of k) (names_of k) {T = Unit {0}} (StandsFor new) far.rest left here later
+          ((subst (λ k. IsPlayed k (StandsFor new) (g.L.Source.left c.loop-step.link) left here later
           (play_step hash (program_of k) (own_of k) c.args.state.now (step_meant step) far.client) (Ok (tt {0}))) before.code
-          (c.in_ok-play_step.ensures.halts far.client far.rest far.stands far.left));
+          (c.in_ok-play_step.ensures.played far.client far.stands)).halts far.rest far.left);
       prompt = λ m bytes is told.
           let far = before.far_to m bytes is told in
           prompt_more P (names_of code) (StandsFor c.loop-step.core) bytes (g.L.Source.left c.loop-step.link) first here
@@ -97,100 +97,77 @@ loop-step-preserved g c =
           (g.L.Source.reads c.loop-step.link) (g.L.Source.reads c.play_step.new.link)) before.code (c.play_step.ensures.prompt far.client far.rest far.stands far.left));
     }
 
-pub returns-in_err-play_step-clause-plays : goal.returns-in_err-play_step-clause-plays
-returns-in_err-play_step-clause-plays g c m ms is comes =
+pub returns-in_err-play_step-clause-played : goal.returns-in_err-play_step-clause-played
+returns-in_err-play_step-clause-played g c m is =
     let code = c.args.core.now.code in
     let hash = g.H.Hash32.hash in
     let P = program_of code in
+    let names = names_of code in
     let own = own_of code in
     let steps = c.args.steps.now in
     let step = c.step-item.result in
     let i = c.loop-step.step-index in
     let before = c.loop-step.invariant in
-    let far = before.far m ms is comes in
     let halt = c.in_err-play_step.field-0.0 in
-    let new = c.play_step.new.core in
-    let whole = play hash P own c.args.state.now (map step_meant steps) m ms in
+    let Is = StandsFor c.play_step.new.core in
+    let whole = play hash P own c.args.state.now (map step_meant steps) m in
+    let from = play hash P own c.args.state.now (map step_meant (drop i steps)) in
+    let more = play hash P own c.args.state.now (map step_meant (drop (i + 1) steps)) in
     let first = world (g.L.Source.sent c.args.link.now) (g.O.Sink.written c.args.out.now) c.args.last.now in
     let here = world (g.L.Source.sent c.loop-step.link) (g.O.Sink.written c.loop-step.out) c.loop-step.last in
     let later = world (g.L.Source.sent c.play_step.new.link) (g.O.Sink.written c.play_step.new.out) c.play_step.new.last in
+    let coming = g.L.Source.left c.loop-step.link in
     let left = g.L.Source.left c.play_step.new.link in
-    gives_with (PlaysAs P (names_of code) {T = Unit {0}} (StandsFor new) left first later whole) halt _ c.from_residual.ensures.1
-    (halts_so P (names_of code) whole (play hash P own c.args.state.now (map step_meant (drop i steps)))
-    (StandsFor c.loop-step.core) (g.L.Source.left c.loop-step.link) first here far (play hash P own c.args.state.now (map step_meant (drop (i + 1) steps)))
-    (play_step hash P own c.args.state.now (step_meant step) far.client far.coming)
-    (line_next hash P own c.args.state.now steps i step c.loop-step-test.true c.step-item.is far.client far.coming)
-    (StandsFor new) (StandsFor new) left left later halt
-    (subst (λ k. PlaysAs (program_of k) (names_of k) {T = Unit {0}} (StandsFor new) left here later
-    (play_step hash (program_of k) (own_of k) c.args.state.now (step_meant step) far.client far.coming) (Err halt)) before.code
-    (c.in_err-play_step.ensures.plays far.client far.coming far.stands far.comes)))
+    gives_with (IsPlayed code Is (g.L.Source.left c.args.link.now) left first later whole) halt _ c.from_residual.ensures.1
+    (record {
+      plays = λ ms comes.
+          let far = before.far m ms is comes in
+          halts_so P names (whole ms) from (StandsFor c.loop-step.core) coming first here far more (play_step hash P own c.args.state.now (step_meant step) far.client far.coming)
+          (line_next hash P own c.args.state.now steps i step c.loop-step-test.true c.step-item.is far.client far.coming) Is Is left left later halt
+          ((subst (λ k. IsPlayed k Is coming left here later (play_step hash (program_of k) (own_of k) c.args.state.now (step_meant step) far.client) (Err halt)) before.code
+          (c.in_err-play_step.ensures.played far.client far.stands)).plays far.coming far.comes);
+      halts = λ bytes told.
+          let far = before.far_to m bytes is told in
+          breaks_to P names (StandsFor c.loop-step.core) bytes coming first here whole from far more (play_step hash P own c.args.state.now (step_meant step) far.client)
+          (λ ms. line_next hash P own c.args.state.now steps i step c.loop-step-test.true c.step-item.is far.client ms) Is Is left later halt
+          ((subst (λ k. IsPlayed k Is coming left here later (play_step hash (program_of k) (own_of k) c.args.state.now (step_meant step) far.client) (Err halt)) before.code
+          (c.in_err-play_step.ensures.played far.client far.stands)).halts far.rest far.left);
+    })
 
 pub returns-in_err-play_step-clause-moves : goal.returns-in_err-play_step-clause-moves
 returns-in_err-play_step-clause-moves g c = moves_on _ _ _ _ _ _ c.loop-step.invariant.moves c.in_err-play_step.ensures.moves
 
-pub returns-clause-plays : goal.returns-clause-plays
-returns-clause-plays g c m ms is comes =
+pub returns-clause-played : goal.returns-clause-played
+returns-clause-played g c m is =
     let code = c.args.core.now.code in
     let hash = g.H.Hash32.hash in
     let P = program_of code in
+    let names = names_of code in
     let own = own_of code in
     let steps = c.args.steps.now in
     let i = c.loop-step.step-index in
+    let whole = play hash P own c.args.state.now (map step_meant steps) m in
+    let from = play hash P own c.args.state.now (map step_meant (drop i steps)) in
+    let none_left = drop_all i steps c.loop-step-test.false in
     let first = world (g.L.Source.sent c.args.link.now) (g.O.Sink.written c.args.out.now) c.args.last.now in
     let here = world (g.L.Source.sent c.loop-step.link) (g.O.Sink.written c.loop-step.out) c.loop-step.last in
-    let far = c.loop-step.invariant.far m ms is comes in
-    ends_so P (names_of code) (play hash P own c.args.state.now (map step_meant steps) m ms) (play hash P own c.args.state.now (map step_meant (drop i steps)))
-    (StandsFor c.loop-step.core) (g.L.Source.left c.loop-step.link) first here far
-    (ap (λ ss. play hash P own c.args.state.now (map step_meant ss) far.client far.coming) (drop_all i steps c.loop-step-test.false)) (tt {0})
+    let left = g.L.Source.left c.loop-step.link in
+    record {
+      plays = λ ms comes.
+          let far = c.loop-step.invariant.far m ms is comes in
+          ends_so P names (whole ms) from (StandsFor c.loop-step.core) left first here far
+          (ap (λ ss. play hash P own c.args.state.now (map step_meant ss) far.client far.coming) none_left) (tt {0});
+      halts = λ bytes told.
+          let far = c.loop-step.invariant.far_to m bytes is told in
+          ends_to P names (StandsFor c.loop-step.core) bytes left first here whole from far
+          (λ ms. ap (λ ss. play hash P own c.args.state.now (map step_meant ss) far.client ms) none_left);
+    }
 
 pub play_step-requires-clause-own : goal.play_step-requires-clause-own
 play_step-requires-clause-own g c κs within =
     ap (λ k. length (own_of k)) c.loop-step.invariant.code ∙ ap (λ k. length (own_of k)) (sym c.code.ensures)
     ∙ ap (λ (p : Program). length p.text_digest.0) (sym c.program.ensures) ∙ ap (λ (d : Digest). length d.0) (sym c.text_digest.ensures)
     ∙ ap length (sym c.as_bytes.ensures.bytes) ∙ c.as_bytes.ensures.length
-
-pub returns-in_err-play_step-clause-halts : goal.returns-in_err-play_step-clause-halts
-returns-in_err-play_step-clause-halts g c m bytes is told =
-    let code = c.args.core.now.code in
-    let hash = g.H.Hash32.hash in
-    let P = program_of code in
-    let own = own_of code in
-    let steps = c.args.steps.now in
-    let step = c.step-item.result in
-    let i = c.loop-step.step-index in
-    let before = c.loop-step.invariant in
-    let far = before.far_to m bytes is told in
-    let halt = c.in_err-play_step.field-0.0 in
-    let new = c.play_step.new.core in
-    let whole = play hash P own c.args.state.now (map step_meant steps) m in
-    let first = world (g.L.Source.sent c.args.link.now) (g.O.Sink.written c.args.out.now) c.args.last.now in
-    let here = world (g.L.Source.sent c.loop-step.link) (g.O.Sink.written c.loop-step.out) c.loop-step.last in
-    let later = world (g.L.Source.sent c.play_step.new.link) (g.O.Sink.written c.play_step.new.out) c.play_step.new.last in
-    let left = g.L.Source.left c.play_step.new.link in
-    gives_with (PlaysTo P (names_of code) {T = Unit {0}} (StandsFor new) bytes left first later whole) halt _ c.from_residual.ensures.1
-    (breaks_to P (names_of code) (StandsFor c.loop-step.core) bytes (g.L.Source.left c.loop-step.link) first here whole
-    (play hash P own c.args.state.now (map step_meant (drop i steps))) far
-    (play hash P own c.args.state.now (map step_meant (drop (i + 1) steps))) (play_step hash P own c.args.state.now (step_meant step) far.client)
-    (λ ms. line_next hash P own c.args.state.now steps i step c.loop-step-test.true c.step-item.is far.client ms)
-    (StandsFor new) (StandsFor new) left later halt
-    (subst (λ k. PlaysTo (program_of k) (names_of k) {T = Unit {0}} (StandsFor new) far.rest left here later
-    (play_step hash (program_of k) (own_of k) c.args.state.now (step_meant step) far.client) (Err halt)) before.code
-    (c.in_err-play_step.ensures.halts far.client far.rest far.stands far.left)))
-
-pub returns-clause-halts : goal.returns-clause-halts
-returns-clause-halts g c m bytes is told =
-    let code = c.args.core.now.code in
-    let hash = g.H.Hash32.hash in
-    let P = program_of code in
-    let own = own_of code in
-    let steps = c.args.steps.now in
-    let i = c.loop-step.step-index in
-    let first = world (g.L.Source.sent c.args.link.now) (g.O.Sink.written c.args.out.now) c.args.last.now in
-    let here = world (g.L.Source.sent c.loop-step.link) (g.O.Sink.written c.loop-step.out) c.loop-step.last in
-    let far = c.loop-step.invariant.far_to m bytes is told in
-    ends_to P (names_of code) (StandsFor c.loop-step.core) bytes (g.L.Source.left c.loop-step.link) first here
-    (play hash P own c.args.state.now (map step_meant steps) m) (play hash P own c.args.state.now (map step_meant (drop i steps))) far
-    (λ ms. ap (λ ss. play hash P own c.args.state.now (map step_meant ss) far.client ms) (drop_all i steps c.loop-step-test.false))
 
 pub returns-in_err-play_step-clause-prompt : goal.returns-in_err-play_step-clause-prompt
 returns-in_err-play_step-clause-prompt g c m bytes is told =

@@ -13,9 +13,9 @@ use Rattle.ask_core.specs.Clients.{IsClient}
 use Rattle.ask_core.specs.Sessions.{StandsFor}
 use Rattle.ask_script.specs.ScriptAnswers.{step_meant}
 use Rattle.ask_script.specs.Scripts.{Fits}
-use Rattle.script_play.specs.HaltingInCode.{PlaysTo}
+use Rattle.script_play.specs.PlayedInCode.{IsPlayed}
 use Rattle.script_play.specs.Plays.{asked_play, play_step, rests, take_replies}
-use Rattle.script_play.specs.Playing.{PlaysAs, world}
+use Rattle.script_play.specs.Playing.{world}
 use Rattle.script_play.specs.PlayingInCode.{names_of, own_of}
 use Rattle.script_play.specs.Prompt.{IsPromptOn}
 use Rattle.script_play.proofs.Asked.{answered_stands, answers_any}
@@ -41,8 +41,8 @@ ask_and_wait-requires-clause-message g c κs within =
     ((record { least = fits.0; fits = omega (arith, fits.1) }), omega (arith, fits.2))
     (IsClient P new.closed (rows_of new.sessions)) c.hello-answered.result (c.hello-answered.ensures.answer c.requires.known.0 c.requires.known.1)
 
-pub returns-in-Open-clause-plays : goal.returns-in-Open-clause-plays
-returns-in-Open-clause-plays g c m ms is comes =
+pub returns-in-Open-clause-played : goal.returns-in-Open-clause-played
+returns-in-Open-clause-played g c m is =
     let code = c.args.core.now.code in
     let P = program_of code in
     let hash = g.H.Hash32.hash in
@@ -50,14 +50,15 @@ returns-in-Open-clause-plays g c m ms is comes =
     let behind = c.hello-answered.new.self in
     let same = c.hello-answered.ensures.code in
     let t = take_event hash P own m (Hellos c.in-Open.session c.in-Open.kept c.args.state.now) in
+    let before = g.L.Source.left c.args.link.now in
+    let left = g.L.Source.left c.ask_and_wait.new.link in
     let first = world (g.L.Source.sent c.args.link.now) (g.O.Sink.written c.args.out.now) c.args.last.now in
     let later = world (g.L.Source.sent c.ask_and_wait.new.link) (g.O.Sink.written c.ask_and_wait.new.out) c.ask_and_wait.new.last in
-    let left = g.L.Source.left c.ask_and_wait.new.link in
     let Is = StandsFor c.ask_and_wait.new.core in
-    subst (λ s. PlaysAs P (names_of code) Is left first later (play_step hash P own c.args.state.now (step_meant s) m ms) c.ask_and_wait.result) (sym c.in-Open.is)
-    (subst (λ k. PlaysAs (program_of k) (names_of k) Is left first later
-    (asked_play t c.in-Open.session ms (take_replies hash (program_of k) (own_of k) (λ x. waits x c.in-Open.session))) c.ask_and_wait.result) same
-    (c.ask_and_wait.ensures.plays t ms (core_answers c.args.core.now behind same m t c.hello-answered.result (c.hello-answered.ensures.answer m is)) comes))
+    subst (λ s. IsPlayed code Is before left first later (play_step hash P own c.args.state.now (step_meant s) m) c.ask_and_wait.result) (sym c.in-Open.is)
+    (subst (λ k. IsPlayed k Is before left first later
+    (λ ms. asked_play t c.in-Open.session ms (take_replies hash (program_of k) (own_of k) (λ x. waits x c.in-Open.session))) c.ask_and_wait.result) same
+    (c.ask_and_wait.ensures.played t (core_answers c.args.core.now behind same m t c.hello-answered.result (c.hello-answered.ensures.answer m is))))
 
 pub ask_and_wait-requires-in-Close-clause-known : goal.ask_and_wait-requires-in-Close-clause-known
 ask_and_wait-requires-in-Close-clause-known g c κs within =
@@ -74,8 +75,8 @@ ask_and_wait-requires-in-Close-clause-message g c κs within =
     (record { least = fits.0; fits = omega (arith, fits.1) })
     (IsClient P new.closed (rows_of new.sessions)) c.bye-answered.result (c.bye-answered.ensures.answer c.requires.known.0 c.requires.known.1)
 
-pub returns-in-Close-clause-plays : goal.returns-in-Close-clause-plays
-returns-in-Close-clause-plays g c m ms is comes =
+pub returns-in-Close-clause-played : goal.returns-in-Close-clause-played
+returns-in-Close-clause-played g c m is =
     let code = c.args.core.now.code in
     let P = program_of code in
     let hash = g.H.Hash32.hash in
@@ -83,14 +84,15 @@ returns-in-Close-clause-plays g c m ms is comes =
     let behind = c.bye-answered.new.self in
     let same = c.bye-answered.ensures.code in
     let t = take_event hash P own m (Byes c.in-Close.session) in
+    let before = g.L.Source.left c.args.link.now in
+    let left = g.L.Source.left c.ask_and_wait-in-Close.new.link in
     let first = world (g.L.Source.sent c.args.link.now) (g.O.Sink.written c.args.out.now) c.args.last.now in
     let later = world (g.L.Source.sent c.ask_and_wait-in-Close.new.link) (g.O.Sink.written c.ask_and_wait-in-Close.new.out) c.ask_and_wait-in-Close.new.last in
-    let left = g.L.Source.left c.ask_and_wait-in-Close.new.link in
     let Is = StandsFor c.ask_and_wait-in-Close.new.core in
-    subst (λ s. PlaysAs P (names_of code) Is left first later (play_step hash P own c.args.state.now (step_meant s) m ms) c.ask_and_wait-in-Close.result) (sym c.in-Close.is)
-    (subst (λ k. PlaysAs (program_of k) (names_of k) Is left first later
-    (asked_play t c.in-Close.session ms (take_replies hash (program_of k) (own_of k) (λ x. waits x c.in-Close.session))) c.ask_and_wait-in-Close.result) same
-    (c.ask_and_wait-in-Close.ensures.plays t ms (core_answers c.args.core.now behind same m t c.bye-answered.result (c.bye-answered.ensures.answer m is)) comes))
+    subst (λ s. IsPlayed code Is before left first later (play_step hash P own c.args.state.now (step_meant s) m) c.ask_and_wait-in-Close.result) (sym c.in-Close.is)
+    (subst (λ k. IsPlayed k Is before left first later
+    (λ ms. asked_play t c.in-Close.session ms (take_replies hash (program_of k) (own_of k) (λ x. waits x c.in-Close.session))) c.ask_and_wait-in-Close.result) same
+    (c.ask_and_wait-in-Close.ensures.played t (core_answers c.args.core.now behind same m t c.bye-answered.result (c.bye-answered.ensures.answer m is))))
 
 pub call-answered-requires-after_bounds : goal.call-answered-requires-after_bounds
 call-answered-requires-after_bounds g c κs within = omega (arith, (subst (λ s. Fits (program_of c.args.core.now.code) (step_meant s)) c.in-Call.is c.requires.step).3)
@@ -108,24 +110,33 @@ ask-requires g c =
           (IsClient P new.closed (rows_of new.sessions)) c.call-answered.result (c.call-answered.ensures.answer c.requires.known.0 c.requires.known.1);
     }
 
-pub returns-in_ok-ask-in-Call-clause-plays : goal.returns-in_ok-ask-in-Call-clause-plays
-returns-in_ok-ask-in-Call-clause-plays g c m ms is comes =
+pub returns-in_ok-ask-in-Call-clause-played : goal.returns-in_ok-ask-in-Call-clause-played
+returns-in_ok-ask-in-Call-clause-played g c m is =
     let code = c.args.core.now.code in
     let P = program_of code in
     let names = names_of code in
     let behind = c.call-answered.new.self in
+    let Is = StandsFor behind in
     let t = take_event g.H.Hash32.hash P (own_of code) m (Calls c.in-Call.session c.in-Call.role c.in-Call.fuel c.in-Call.argument) in
+    let before = g.L.Source.left c.args.link.now in
+    let left = g.L.Source.left c.ask.new.link in
     let first = world (g.L.Source.sent c.args.link.now) (g.O.Sink.written c.args.out.now) c.args.last.now in
     let later = world (g.L.Source.sent c.ask.new.link) (g.O.Sink.written c.ask.new.out) c.ask.new.last in
-    let left = g.L.Source.left c.ask.new.link in
     let answers = core_answers c.args.core.now behind c.call-answered.ensures.code m t c.call-answered.result
     (subst (λ a. Asks (IsClient P behind.closed (rows_of behind.sessions)) m
     (take_event g.H.Hash32.hash P (own_of code) m (Calls c.in-Call.session c.in-Call.role c.in-Call.fuel a)) c.call-answered.result) c.as_bytes.ensures
     (c.call-answered.ensures.answer m is)) in
-    subst (λ s. PlaysAs P names (StandsFor behind) left first later (play_step g.H.Hash32.hash P (own_of code) c.args.state.now (step_meant s) m ms) (Ok (tt {0}))) (sym c.in-Call.is)
-    (asked_stands P names t c.in-Call.session ms rests (tt {0}) c.in_ok-ask-in-Call.field-0 first later (StandsFor behind) left
-    (answered_stands (StandsFor behind) m t c.call-answered.result c.in_ok-ask-in-Call.ensures.memory answers)
-    (c.in_ok-ask-in-Call.ensures.plays P names t ms (answers_any (StandsFor behind) m t c.call-answered.result answers) comes))
+    let any = answers_any Is m t c.call-answered.result answers in
+    let stands = answered_stands Is m t c.call-answered.result c.in_ok-ask-in-Call.ensures.memory answers in
+    subst (λ s. IsPlayed code Is before left first later (play_step g.H.Hash32.hash P (own_of code) c.args.state.now (step_meant s) m) (Ok (tt {0}))) (sym c.in-Call.is)
+    (record {
+      plays = λ ms comes. asked_stands P names t c.in-Call.session ms rests (tt {0}) c.in_ok-ask-in-Call.field-0 first later Is left stands
+          (c.in_ok-ask-in-Call.ensures.plays P names t ms any comes);
+      halts = λ bytes told.
+          let ms = messages reply_of bytes in
+          let plays = c.in_ok-ask-in-Call.ensures.plays P names t ms any (record { bytes = bytes; told = told; are = refl }) in
+          line_alone P names t c.in-Call.session bytes left (c.ask.ensures.left ∙ told) Is first later ms plays.0 plays.1 stands;
+    })
 
 pub returns-in_ok-ask-in-Call-clause-known : goal.returns-in_ok-ask-in-Call-clause-known
 returns-in_ok-ask-in-Call-clause-known g c =
@@ -137,123 +148,40 @@ returns-in_err-ask-in-Call-clause-known g c =
     core_stands c.args.core.now c.call-answered.new.self c.call-answered.ensures.code c.requires.known.0 _ c.call-answered.result
     (c.call-answered.ensures.answer c.requires.known.0 c.requires.known.1)
 
-pub returns-in_err-ask-in-Call-clause-plays : goal.returns-in_err-ask-in-Call-clause-plays
-returns-in_err-ask-in-Call-clause-plays g c m ms is comes =
+pub returns-in_err-ask-in-Call-clause-played : goal.returns-in_err-ask-in-Call-clause-played
+returns-in_err-ask-in-Call-clause-played g c m is =
+    let halt = c.in_err-ask-in-Call.field-0.0 in
     let code = c.args.core.now.code in
     let P = program_of code in
     let names = names_of code in
     let behind = c.call-answered.new.self in
-    let halt = c.in_err-ask-in-Call.field-0.0 in
+    let Is = StandsFor behind in
     let t = take_event g.H.Hash32.hash P (own_of code) m (Calls c.in-Call.session c.in-Call.role c.in-Call.fuel c.in-Call.argument) in
+    let before = g.L.Source.left c.args.link.now in
+    let left = g.L.Source.left c.ask.new.link in
     let first = world (g.L.Source.sent c.args.link.now) (g.O.Sink.written c.args.out.now) c.args.last.now in
     let later = world (g.L.Source.sent c.ask.new.link) (g.O.Sink.written c.ask.new.out) c.ask.new.last in
-    let left = g.L.Source.left c.ask.new.link in
     let answers = core_answers c.args.core.now behind c.call-answered.ensures.code m t c.call-answered.result
     (subst (λ a. Asks (IsClient P behind.closed (rows_of behind.sessions)) m
     (take_event g.H.Hash32.hash P (own_of code) m (Calls c.in-Call.session c.in-Call.role c.in-Call.fuel a)) c.call-answered.result) c.as_bytes.ensures
     (c.call-answered.ensures.answer m is)) in
-    gives_with (PlaysAs P names {T = Unit {0}} (StandsFor behind) left first later (play_step g.H.Hash32.hash P (own_of code) c.args.state.now (step_meant c.args.step.now) m ms))
-    halt _ c.from_residual.ensures.1
-    (subst (λ s. PlaysAs P names {T = Unit {0}} (StandsFor behind) left first later (play_step g.H.Hash32.hash P (own_of code) c.args.state.now (step_meant s) m ms) (Err halt)) (sym c.in-Call.is)
-    (asked_halts P names t c.in-Call.session ms rests first later (λ x. x ≡ t.client) (StandsFor behind) left left halt
-    (c.in_err-ask-in-Call.ensures.plays P names t ms (answers_any (StandsFor behind) m t c.call-answered.result answers) comes)))
+    let any = answers_any Is m t c.call-answered.result answers in
+    gives_with (IsPlayed code Is before left first later (play_step g.H.Hash32.hash P (own_of code) c.args.state.now (step_meant c.args.step.now) m)) halt _ c.from_residual.ensures.1
+    (subst (λ s. IsPlayed code Is before left first later (play_step g.H.Hash32.hash P (own_of code) c.args.state.now (step_meant s) m) (Err halt)) (sym c.in-Call.is)
+    (record {
+      plays = λ ms comes. asked_halts P names t c.in-Call.session ms rests first later (λ x. x ≡ t.client) Is left left halt (c.in_err-ask-in-Call.ensures.plays P names t ms any comes);
+      halts = λ bytes told. line_halts P names t c.in-Call.session bytes left (c.ask.ensures.left ∙ told) Is rests first later halt
+          (c.in_err-ask-in-Call.ensures.halts P names t (messages reply_of []) any)
+          (c.in_err-ask-in-Call.ensures.plays P names t (messages reply_of bytes) any (record { bytes = bytes; told = told; are = refl }));
+    }))
 
-pub returns-in-Go-clause-plays : goal.returns-in-Go-clause-plays
-returns-in-Go-clause-plays g c m ms is comes =
+pub returns-in-Go-clause-played : goal.returns-in-Go-clause-played
+returns-in-Go-clause-played g c m is =
     let code = c.args.core.now.code in
-    let P = program_of code in
     let first = world (g.L.Source.sent c.args.link.now) (g.O.Sink.written c.args.out.now) c.args.last.now in
     let later = world (g.L.Source.sent c.let_run.new.link) (g.O.Sink.written c.let_run.new.out) c.let_run.new.last in
-    subst (λ s. PlaysAs P (names_of code) (StandsFor c.let_run.new.core) (g.L.Source.left c.let_run.new.link) first later
-    (play_step g.H.Hash32.hash P (own_of code) c.args.state.now (step_meant s) m ms) c.let_run.result) (sym c.in-Go.is) (c.let_run.ensures.plays m ms is comes)
-
-pub returns-in-Open-clause-halts : goal.returns-in-Open-clause-halts
-returns-in-Open-clause-halts g c m bytes is told =
-    let code = c.args.core.now.code in
-    let P = program_of code in
-    let hash = g.H.Hash32.hash in
-    let own = own_of code in
-    let behind = c.hello-answered.new.self in
-    let same = c.hello-answered.ensures.code in
-    let t = take_event hash P own m (Hellos c.in-Open.session c.in-Open.kept c.args.state.now) in
-    let first = world (g.L.Source.sent c.args.link.now) (g.O.Sink.written c.args.out.now) c.args.last.now in
-    let later = world (g.L.Source.sent c.ask_and_wait.new.link) (g.O.Sink.written c.ask_and_wait.new.out) c.ask_and_wait.new.last in
-    let left = g.L.Source.left c.ask_and_wait.new.link in
-    let Is = StandsFor c.ask_and_wait.new.core in
-    subst (λ s. PlaysTo P (names_of code) Is bytes left first later (play_step hash P own c.args.state.now (step_meant s) m) c.ask_and_wait.result) (sym c.in-Open.is)
-    (subst (λ k. PlaysTo (program_of k) (names_of k) Is bytes left first later
-    (λ ms. asked_play t c.in-Open.session ms (take_replies hash (program_of k) (own_of k) (λ x. waits x c.in-Open.session))) c.ask_and_wait.result) same
-    (c.ask_and_wait.ensures.halts t bytes (core_answers c.args.core.now behind same m t c.hello-answered.result (c.hello-answered.ensures.answer m is)) told))
-
-pub returns-in-Close-clause-halts : goal.returns-in-Close-clause-halts
-returns-in-Close-clause-halts g c m bytes is told =
-    let code = c.args.core.now.code in
-    let P = program_of code in
-    let hash = g.H.Hash32.hash in
-    let own = own_of code in
-    let behind = c.bye-answered.new.self in
-    let same = c.bye-answered.ensures.code in
-    let t = take_event hash P own m (Byes c.in-Close.session) in
-    let first = world (g.L.Source.sent c.args.link.now) (g.O.Sink.written c.args.out.now) c.args.last.now in
-    let later = world (g.L.Source.sent c.ask_and_wait-in-Close.new.link) (g.O.Sink.written c.ask_and_wait-in-Close.new.out) c.ask_and_wait-in-Close.new.last in
-    let left = g.L.Source.left c.ask_and_wait-in-Close.new.link in
-    let Is = StandsFor c.ask_and_wait-in-Close.new.core in
-    subst (λ s. PlaysTo P (names_of code) Is bytes left first later (play_step hash P own c.args.state.now (step_meant s) m) c.ask_and_wait-in-Close.result) (sym c.in-Close.is)
-    (subst (λ k. PlaysTo (program_of k) (names_of k) Is bytes left first later
-    (λ ms. asked_play t c.in-Close.session ms (take_replies hash (program_of k) (own_of k) (λ x. waits x c.in-Close.session))) c.ask_and_wait-in-Close.result) same
-    (c.ask_and_wait-in-Close.ensures.halts t bytes (core_answers c.args.core.now behind same m t c.bye-answered.result (c.bye-answered.ensures.answer m is)) told))
-
-pub returns-in_ok-ask-in-Call-clause-halts : goal.returns-in_ok-ask-in-Call-clause-halts
-returns-in_ok-ask-in-Call-clause-halts g c m bytes is told =
-    let code = c.args.core.now.code in
-    let P = program_of code in
-    let names = names_of code in
-    let behind = c.call-answered.new.self in
-    let t = take_event g.H.Hash32.hash P (own_of code) m (Calls c.in-Call.session c.in-Call.role c.in-Call.fuel c.in-Call.argument) in
-    let first = world (g.L.Source.sent c.args.link.now) (g.O.Sink.written c.args.out.now) c.args.last.now in
-    let later = world (g.L.Source.sent c.ask.new.link) (g.O.Sink.written c.ask.new.out) c.ask.new.last in
-    let left = g.L.Source.left c.ask.new.link in
-    let answers = core_answers c.args.core.now behind c.call-answered.ensures.code m t c.call-answered.result
-    (subst (λ a. Asks (IsClient P behind.closed (rows_of behind.sessions)) m
-    (take_event g.H.Hash32.hash P (own_of code) m (Calls c.in-Call.session c.in-Call.role c.in-Call.fuel a)) c.call-answered.result) c.as_bytes.ensures
-    (c.call-answered.ensures.answer m is)) in
-    let ms = messages reply_of bytes in
-    let plays = c.in_ok-ask-in-Call.ensures.plays P names t ms (answers_any (StandsFor behind) m t c.call-answered.result answers) (record { bytes = bytes; told = told; are = refl }) in
-    subst (λ s. PlaysTo P names (StandsFor behind) bytes left first later (play_step g.H.Hash32.hash P (own_of code) c.args.state.now (step_meant s) m) (Ok (tt {0}))) (sym c.in-Call.is)
-    (line_alone P names t c.in-Call.session bytes left (c.ask.ensures.left ∙ told) (StandsFor behind) first later ms plays.0 plays.1
-    (answered_stands (StandsFor behind) m t c.call-answered.result c.in_ok-ask-in-Call.ensures.memory answers))
-
-pub returns-in_err-ask-in-Call-clause-halts : goal.returns-in_err-ask-in-Call-clause-halts
-returns-in_err-ask-in-Call-clause-halts g c m bytes is told =
-    let code = c.args.core.now.code in
-    let P = program_of code in
-    let names = names_of code in
-    let behind = c.call-answered.new.self in
-    let halt = c.in_err-ask-in-Call.field-0.0 in
-    let t = take_event g.H.Hash32.hash P (own_of code) m (Calls c.in-Call.session c.in-Call.role c.in-Call.fuel c.in-Call.argument) in
-    let first = world (g.L.Source.sent c.args.link.now) (g.O.Sink.written c.args.out.now) c.args.last.now in
-    let later = world (g.L.Source.sent c.ask.new.link) (g.O.Sink.written c.ask.new.out) c.ask.new.last in
-    let left = g.L.Source.left c.ask.new.link in
-    let answers = core_answers c.args.core.now behind c.call-answered.ensures.code m t c.call-answered.result
-    (subst (λ a. Asks (IsClient P behind.closed (rows_of behind.sessions)) m
-    (take_event g.H.Hash32.hash P (own_of code) m (Calls c.in-Call.session c.in-Call.role c.in-Call.fuel a)) c.call-answered.result) c.as_bytes.ensures
-    (c.call-answered.ensures.answer m is)) in
-    gives_with (PlaysTo P names {T = Unit {0}} (StandsFor behind) bytes left first later (play_step g.H.Hash32.hash P (own_of code) c.args.state.now (step_meant c.args.step.now) m))
-    halt _ c.from_residual.ensures.1
-    (subst (λ s. PlaysTo P names {T = Unit {0}} (StandsFor behind) bytes left first later (play_step g.H.Hash32.hash P (own_of code) c.args.state.now (step_meant s) m) (Err halt)) (sym c.in-Call.is)
-    (line_halts P names t c.in-Call.session bytes left (c.ask.ensures.left ∙ told) (StandsFor behind) rests first later halt
-    (c.in_err-ask-in-Call.ensures.halts P names t (messages reply_of []) (answers_any (StandsFor behind) m t c.call-answered.result answers))
-    (c.in_err-ask-in-Call.ensures.plays P names t (messages reply_of bytes) (answers_any (StandsFor behind) m t c.call-answered.result answers)
-    (record { bytes = bytes; told = told; are = refl }))))
-
-pub returns-in-Go-clause-halts : goal.returns-in-Go-clause-halts
-returns-in-Go-clause-halts g c m bytes is told =
-    let code = c.args.core.now.code in
-    let P = program_of code in
-    let first = world (g.L.Source.sent c.args.link.now) (g.O.Sink.written c.args.out.now) c.args.last.now in
-    let later = world (g.L.Source.sent c.let_run.new.link) (g.O.Sink.written c.let_run.new.out) c.let_run.new.last in
-    subst (λ s. PlaysTo P (names_of code) (StandsFor c.let_run.new.core) bytes (g.L.Source.left c.let_run.new.link) first later
-    (play_step g.H.Hash32.hash P (own_of code) c.args.state.now (step_meant s) m) c.let_run.result) (sym c.in-Go.is) (c.let_run.ensures.halts m bytes is told)
+    subst (λ s. IsPlayed code (StandsFor c.let_run.new.core) (g.L.Source.left c.args.link.now) (g.L.Source.left c.let_run.new.link) first later
+    (play_step g.H.Hash32.hash (program_of code) (own_of code) c.args.state.now (step_meant s) m) c.let_run.result) (sym c.in-Go.is) (c.let_run.ensures.played m is)
 
 pub returns-in-Open-clause-prompt : goal.returns-in-Open-clause-prompt
 returns-in-Open-clause-prompt g c m bytes is told =

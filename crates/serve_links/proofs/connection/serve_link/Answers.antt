@@ -1,7 +1,7 @@
 use Rattle.std.proofs.Common.{Ok, Err, ap, sym, subst, ◌∙◌, true, false, refl}
 use Rattle.wire_form.proofs.Moving.{moves_on}
 use Rattle.link_ends.specs.declared.end.ConnectionEnd.TheVariants.{Over, Stopped}
-use Rattle.link_ends.specs.declared.halt.Halt.TheVariants as halt
+use Rattle.link_ends.specs.declared.link_stop.LinkStop.TheVariants as link_stop
 use Rattle.link_ends.proofs.Taken.{none_moved}
 use Rattle.session_turns.specs.Keepers.{KeepsBetween}
 use Rattle.serve_links.proofs.KeptBehind.{end_same, failed_at_stop, failed_then, kept_at_end, stayed_at_end, stayed_at_fault, stayed_twice}
@@ -86,7 +86,7 @@ returns-in-Err-LinkFault-clause-served g c = λ bytes told server place serves k
     let loop = c.loop-core.invariant in
     let Kept = KeepsBetween (g.K.Keeper.keeps c.serve_message.new.keeper place) in
     let so_far = loop.served bytes told server c.serve_message.new.keeper place serves in
-    let off = served_at hash Kept now broken so_far.current (g.L.Source.sent before) (g.L.Source.sent behind) so_far.rest (g.L.Source.left behind) (Err c.in-Err-LinkFault.field-0) (Err halt.LinkFault)
+    let off = served_at hash Kept now broken so_far.current (g.L.Source.sent before) (g.L.Source.sent behind) so_far.rest (g.L.Source.left behind) (Err c.in-Err-LinkFault.field-0) (Err link_stop.LinkFault)
     (ap Err c.in-Err-LinkFault.field-0-is) (c.in-Err-LinkFault.ensures.served so_far.rest so_far.told so_far.current place so_far.serves (loop.kept place keeps)) in
     breaks_now hash Kept first now loop.code server (g.L.Source.sent c.args.link.now) (g.L.Source.sent before) (g.L.Source.sent behind) bytes (g.L.Source.left before) so_far
     broken c.end_at_fault.new.core (g.L.Source.left behind) c.end_at_fault.result c.end_at_fault.ensures.broken off (c.end_at_fault.ensures.ended _ off.serves)
@@ -113,7 +113,7 @@ returns-in-Err-Stopped-clause-served g c = λ bytes told server place serves kee
     let loop = c.loop-core.invariant in
     let Kept = KeepsBetween (g.K.Keeper.keeps c.serve_message.new.keeper place) in
     let so_far = loop.served bytes told server c.serve_message.new.keeper place serves in
-    let ended = served_at hash Kept now new so_far.current (g.L.Source.sent before) (g.L.Source.sent behind) so_far.rest (g.L.Source.left behind) (Err c.in-Err-Stopped.field-0) (Err halt.Stopped)
+    let ended = served_at hash Kept now new so_far.current (g.L.Source.sent before) (g.L.Source.sent behind) so_far.rest (g.L.Source.left behind) (Err c.in-Err-Stopped.field-0) (Err link_stop.Stopped)
     (ap Err c.in-Err-Stopped.field-0-is) (c.in-Err-Stopped.ensures.served so_far.rest so_far.told so_far.current place so_far.serves (loop.kept place keeps)) in
     ends_now hash Kept first now loop.code server (g.L.Source.sent c.args.link.now) (g.L.Source.sent before) (g.L.Source.sent behind) bytes (g.L.Source.left before) so_far new (g.L.Source.left behind) Stopped ended
 

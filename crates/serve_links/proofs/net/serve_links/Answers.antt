@@ -1,6 +1,6 @@
 use Rattle.std.proofs.Common.{arith, ◌≡◌, ◌||◌, ap, sym, subst, ◌∙◌, Err, Bool}
 use Rattle.lam_outside.specs.Links.{links_so_far}
-use Rattle.link_ends.specs.declared.halt.Halt.TheVariants as halt
+use Rattle.link_ends.specs.declared.link_stop.LinkStop.TheVariants as link_stop
 use Rattle.link_ends.proofs.FaultsTold.{IsFaultTold, fault_told, or_none, or_one, rose_at}
 use Rattle.session_turns.specs.Keepers.{KeepsBetween}
 use Rattle.serve_links.proofs.KeptBehind.{failed_at_stop, failed_then, stayed_at_fault, stayed_twice}
@@ -21,7 +21,7 @@ returns-in-Err-Stopped-clause-served g c = λ port listening server place serves
     let told_new = links_so_far (g.N.Net.ended new) (g.N.Net.linked new) (g.N.Source.given new) (g.N.Source.left new) (g.N.Source.sent new) (g.N.Source.reads new) in
     link_in_part g.H.Hash32.hash (KeepsBetween (g.K.Keeper.keeps c.serve_next.new.keeper place)) c.args.core.now c.loop.core c.serve_next.new.core loop.code server port told_old told_now after c.loop.link_fault c.loop.counter c.args.connections
     c.loop-test.true (λ links' are. loop.served port listening server serves links' are)
-    (λ s serves'. next_at g.H.Hash32.hash (KeepsBetween (g.K.Keeper.keeps c.serve_next.new.keeper place)) c.loop.core c.serve_next.new.core s port told_now told_new (Err c.in-Err-Stopped.field-0) (Err halt.Stopped) (ap Err c.in-Err-Stopped.field-0-is)
+    (λ s serves'. next_at g.H.Hash32.hash (KeepsBetween (g.K.Keeper.keeps c.serve_next.new.keeper place)) c.loop.core c.serve_next.new.core s port told_now told_new (Err c.in-Err-Stopped.field-0) (Err link_stop.Stopped) (ap Err c.in-Err-Stopped.field-0-is)
     (c.in-Err-Stopped.ensures.served port (loop.listened ∙ listening) s place serves' (loop.kept place keeps)) after is) loop.history.server loop.history.serves
 
 pub returns-in-Err-LinkFault-clause-served : goal.returns-in-Err-LinkFault-clause-served
@@ -33,7 +33,7 @@ returns-in-Err-LinkFault-clause-served g c = λ port listening server place serv
     let told_old = links_so_far (g.N.Net.ended old) (g.N.Net.linked old) (g.N.Source.given old) (g.N.Source.left old) (g.N.Source.sent old) (g.N.Source.reads old) in
     let told_now = links_so_far (g.N.Net.ended now) (g.N.Net.linked now) (g.N.Source.given now) (g.N.Source.left now) (g.N.Source.sent now) (g.N.Source.reads now) in
     let told_new = links_so_far (g.N.Net.ended new) (g.N.Net.linked new) (g.N.Source.given new) (g.N.Source.left new) (g.N.Source.sent new) (g.N.Source.reads new) in
-    let same = next_at g.H.Hash32.hash (KeepsBetween (g.K.Keeper.keeps c.serve_next.new.keeper place)) c.loop.core c.serve_next.new.core loop.history.server port told_now told_new (Err c.in-Err-LinkFault.field-0) (Err halt.LinkFault)
+    let same = next_at g.H.Hash32.hash (KeepsBetween (g.K.Keeper.keeps c.serve_next.new.keeper place)) c.loop.core c.serve_next.new.core loop.history.server port told_now told_new (Err c.in-Err-LinkFault.field-0) (Err link_stop.LinkFault)
     (ap Err c.in-Err-LinkFault.field-0-is) (c.in-Err-LinkFault.ensures.served port (loop.listened ∙ listening) loop.history.server place loop.history.serves (loop.kept place keeps)) in
     no_more g.H.Hash32.hash (KeepsBetween (g.K.Keeper.keeps c.serve_next.new.keeper place)) c.args.core.now c.loop.core c.serve_next.new.core server port told_old after c.loop.link_fault c.loop.counter c.args.connections
     (g.N.Net.accept_faults old) (g.N.Net.accept_faults now) (g.N.Net.accept_faults new) same.1 c.loop-test.true loop.accepts

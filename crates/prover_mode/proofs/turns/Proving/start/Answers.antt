@@ -22,7 +22,7 @@ returns g c nodes s a called =
       runs = c.in_ok-machine.ensures.will nodes (call_values s a) [] stand;
       calls = let fuel = starts.fuel in omega (arith, fuel);
       due = starts.entered;
-      knows = subst (λ m. AreFronts hash (program_in c.args.code.now).types m.fronts) (sym c.in_ok-machine.ensures.mode)
+      knows = subst (λ m. AreFronts hash (program_in c.args.code.now).types m.digesting.fronts) (sym c.in_ok-machine.ensures.mode)
           (subst (AreFronts hash (program_in c.args.code.now).types) (sym c.new-prover.ensures.fronts) (subst (λ t. AreFronts hash t c.in_ok-fronts.fronts) c.types.ensures c.in_ok-fronts.ensures));
       few = c.in_ok-machine.ensures.few;
     }

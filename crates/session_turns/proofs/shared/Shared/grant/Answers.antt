@@ -1,6 +1,7 @@
 use Rattle.std.proofs.Common.{◌≡◌, true, List, [], Some, length, map, slice_get, ◌<◌, ◌≤◌, ◌++◌, sym, ap, ◌∙◌, subst, arith, refl}
 use Rattle.std.specs.List.{All}
 use Rattle.std.proofs.lemmas.Option.{slice_get_read}
+use Rattle.core_terms.specs.Limits.{most_fuel}
 use Rattle.core_terms.specs.Programs.{meaning, types_of}
 use Rattle.core_terms.specs.Projection.{digest_at}
 use Rattle.core_terms.specs.RoleViews.{role_kind_of, role_of}
@@ -77,7 +78,7 @@ returns g c own ending s shared shares idle =
           (λ (e : changes_state (role_kind_of role.kind) ≡ true). let other = w.if-changes_state.ensures in absurd (cc (other, e)))
     ] in
     let reads = sym c.if-not-reads_state.ensures in
-    let few : c.args.fuel ≤ meant.fuel_limit = omega arith in
+    let few : c.args.fuel ≤ most_fuel = omega arith in
     let is =
     granted hash (program_in c.args.code.now) c.types.result.now c.types.ensures roles coded shapes role c.args.role at reads c.args.fuel few own ending s idle
     (length shared.versions) c.args.argument.now _ c.in_ok-argument.argument c.in_ok-argument.ensures.value room in

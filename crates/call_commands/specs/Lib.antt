@@ -1,0 +1,11 @@
+pub mod CallRows
+pub mod LineRows
+pub mod NamedCalls
+pub mod ProvedCalls
+pub mod AuditedCalls
+pub mod ShallowLaws
+pub mod TrueFetches
+pub mod TrueLines
+pub mod VerdictLaws
+pub mod NamedPrograms
+pub mod AnswersBehind

@@ -1,6 +1,0 @@
-use Rattle.std.proofs.Common.{IfErr, subst}
-use Rattle.file_commands.specs.FetchedCalls.{IsNoFault}
-use Rattle.file_commands.proofs.fetch_call.verdict_report.Goals as goal
-
-pub verdict_halt-requires : goal.verdict_halt-requires
-verdict_halt-requires c = subst (λ judged. IfErr judged IsNoFault) c.in-Err.is c.requires.no_fault

@@ -1,5 +1,0 @@
-use Rattle.file_commands.proofs.OnProofs.{verdicts_are_on_proofs}
-use Rattle.file_commands.proofs.laws.verdicts_are_on_proofs.Goals as goal
-
-pub returns : goal.returns
-returns c = verdicts_are_on_proofs

@@ -1,4 +1,0 @@
-use Rattle.store_tests.proofs.spelled.+is_flat.Given as goal
-
-abbrev pub decreases-is_flat : goal.decreases-is_flat
-decreases-is_flat l = l.levels
