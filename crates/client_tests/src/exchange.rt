@@ -145,6 +145,37 @@ fn ends(core: &ServeCore<Sha, NoGate>, user: &mut User) -> Result<(), Finding> {
     }
 }
 
+/// A user of a program, with rings of this size.
+fn user_of(alloc: Global, library: Library, kept: u16) -> Result<User, AllocError> {
+    let code = code_of(alloc, library.text())?;
+    Ok(User::new(alloc, code, u64::from(kept), kept))
+}
+
+/// All requests of a case, from the first version on.
+fn asks_all<R: Threads + Sync>(
+    rt: &R,
+    alloc: Global,
+    core: &mut ServeCore<Sha, NoGate>,
+    user: &mut User,
+) -> Result<(), Finding>
+    requires { (server : meant.Server) × Serves sha256 core.old server }
+{
+    user.learn(core)?;
+    steps(rt, alloc, core, user)?;
+    ends(core, user)
+}
+
+/// The exchange of a user with a new server.
+fn meets_server<R: Threads + Sync>(
+    rt: &R,
+    alloc: Global,
+    library: Library,
+    user: &mut User,
+) -> Result<(), Finding> {
+    let mut core = first_server(alloc, library)?;
+    asks_all(rt, alloc, &mut core, user)
+}
+
 /// The exchange of a case.
 fn exchange<R: Threads + Sync>(
     rt: &R,
@@ -152,12 +183,8 @@ fn exchange<R: Threads + Sync>(
     library: Library,
     kept: u16,
 ) -> Result<(), Finding> {
-    let code = code_of(alloc, library.text())?;
-    let mut user = User::new(alloc, code, u64::from(kept), kept)?;
-    let mut core = first_server(alloc, library)?;
-    user.learn(&core)?;
-    steps(rt, alloc, &mut core, &mut user)?;
-    ends(&core, &mut user)
+    let mut user = user_of(alloc, library, kept)?;
+    meets_server(rt, alloc, library, &mut user)
 }
 
 fn trouble_word(trouble: Trouble) -> &'static str {

@@ -96,6 +96,9 @@ struct Place {
     end: usize,
 }
 
+/// The place of no bytes.
+const NOWHERE: Place = Place { start: 0, end: 0 };
+
 impl Place {
     /// The bytes there.
     fn of(self, bytes: &[u8]) -> &[u8] {
@@ -127,6 +130,23 @@ enum Lie {
     SaidLater,
 }
 
+/// Where a reply stands; nowhere behind the last one.
+fn place_of(replies: &[Place], number: usize) -> Place {
+    replies.get(number).copied().unwrap_or(NOWHERE)
+}
+
+/// Whose bytes are said in the place of the other reply, one behind the other, with a lie with that of this number.
+fn said(replies: &[Place], other: usize, number: usize, lie: Lie) -> (Place, Place) {
+    let place = place_of(replies, other);
+    match lie {
+        Lie::LeftOut if other == number => (NOWHERE, NOWHERE),
+        Lie::SaidTwice if other == number => (place, place),
+        Lie::SaidLater if other == number => (place_of(replies, other.saturating_add(1)), place),
+        Lie::SaidLater if other == number.saturating_add(1) => (NOWHERE, NOWHERE),
+        _ => (place, NOWHERE),
+    }
+}
+
 /// The replies with a lie with that of this number.
 fn with_lie(
     alloc: Global,
@@ -136,23 +156,10 @@ fn with_lie(
     lie: Lie,
 ) -> Result<Vec<u8>, AllocError> {
     let mut bytes = Vec::new(alloc);
-    for (other, place) in replies.iter().enumerate() {
-        let said = place.of(honest);
-        match lie {
-            Lie::LeftOut if other == number => {}
-            Lie::SaidTwice if other == number => {
-                bytes.extend_from_slice(said)?;
-                bytes.extend_from_slice(said)?;
-            }
-            Lie::SaidLater if other == number => {
-                if let Some(next) = replies.get(other.saturating_add(1)) {
-                    bytes.extend_from_slice(next.of(honest))?;
-                }
-                bytes.extend_from_slice(said)?;
-            }
-            Lie::SaidLater if other == number.saturating_add(1) => {}
-            _ => bytes.extend_from_slice(said)?,
-        }
+    for other in 0..replies.len() {
+        let (first, second) = said(replies, other, number, lie);
+        bytes.extend_from_slice(first.of(honest))?;
+        bytes.extend_from_slice(second.of(honest))?;
     }
     Ok(bytes)
 }
@@ -192,6 +199,21 @@ fn change(bytes: &mut [u8], place: usize, bits: u8) {
     }
 }
 
+/// Whether what is told is true where these bits of a byte of the replies are changed. They are changed back then.
+fn is_true_changed(
+    alloc: Global,
+    of: Stage,
+    honest: &HonestRun,
+    replies: &mut [u8],
+    place: usize,
+    bits: u8,
+) -> Result<bool, AllocError> {
+    change(replies, place, bits);
+    let is_so = is_true(alloc, of, honest, replies)?;
+    change(replies, place, bits);
+    Ok(is_so)
+}
+
 /// The place of the first byte which, where these bits of it are changed, tells what isn't true.
 fn untrue_byte(
     alloc: Global,
@@ -199,13 +221,11 @@ fn untrue_byte(
     honest: &HonestRun,
     bits: u8,
 ) -> Result<Option<usize>, AllocError> {
-    let mut lies = Vec::from_slice(alloc, &honest.replies)?;
-    for place in 0..lies.len() {
-        change(&mut lies, place, bits);
-        if !is_true(alloc, of, honest, &lies)? {
+    let mut replies = Vec::from_slice(alloc, &honest.replies)?;
+    for place in 0..replies.len() {
+        if !is_true_changed(alloc, of, honest, &mut replies, place, bits)? {
             return Ok(Some(place));
         }
-        change(&mut lies, place, bits);
     }
     Ok(None)
 }
@@ -227,16 +247,25 @@ fn found<R: Threads + Sync>(
     alloc: Global,
     conversation: &Conversation,
 ) -> Result<Option<Finding>, AllocError> {
-    let of = conversation.of;
     let honest = honest_run(rt, alloc, conversation)?;
+    found_beside(alloc, conversation, &honest)
+}
+
+/// The same beside its honest run.
+fn found_beside(
+    alloc: Global,
+    conversation: &Conversation,
+    honest: &HonestRun,
+) -> Result<Option<Finding>, AllocError> {
+    let of = conversation.of;
     let whole = honest.told.whole && honest.told.sent == honest.asked;
     if !whole || honest.told.count != conversation.outcomes {
         return Ok(Some(Finding::NotTold(honest.told.count)));
     }
-    if let Some(number) = untrue_replies(alloc, of, &honest)? {
+    if let Some(number) = untrue_replies(alloc, of, honest)? {
         return Ok(Some(Finding::OfReply(number)));
     }
-    Ok(untrue_bytes(alloc, of, &honest)?.map(Finding::OfByte))
+    Ok(untrue_bytes(alloc, of, honest)?.map(Finding::OfByte))
 }
 
 /// The number of the first reply with which some lie tells what isn't true.

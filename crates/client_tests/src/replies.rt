@@ -7,15 +7,15 @@ use crate::replies::Answer::{
 use crate::standings::Standing::{
     Absent, Broken, CallsQuery, CallsUpdate, Closed, Failed, Greeting, Idle, Leaving, Moved,
 };
-use crate::standings::{ON_BOOL, ON_UNIT, Played, Standing, client_at, standing_of};
+use crate::standings::{ON_BOOL, ON_UNIT, Played, Standing, bring, new_client, standing_of};
 use crate::wire::link_with;
-use ask_core::{AskFault, Told};
+use ask_core::{AskCore, AskFault, Told};
 use core_stage::notation::bytes_of;
 use core_terms::{Cause, Hash32, Outcome};
 use digest_layer::Sha;
 use std::alloc::Global;
 use std::test::Fail;
-use wire_form::{ReadStop, read_reply};
+use wire_form::{ReadStop, Reply, read_reply};
 
 /// What a client answers to what comes.
 #[derive(Clone, Copy, PartialEq)]
@@ -286,18 +286,39 @@ fn stop_answer(stop: ReadStop) -> Answer {
     }
 }
 
+fn reply_answer(core: &mut AskCore<Sha>, reply: Reply) -> Answer {
+    match core.take_reply(reply) {
+        Ok(told) => told_answer(&told),
+        Err(fault) => fault_answer(fault),
+    }
+}
+
+/// What a client answers where these bytes come.
+fn bytes_answer(alloc: Global, core: &mut AskCore<Sha>, bytes: Vec<u8>) -> Answer {
+    let mut link = link_with(alloc, bytes);
+    match read_reply(alloc, &mut link) {
+        Ok(reply) => reply_answer(core, reply),
+        Err(stop) => stop_answer(stop),
+    }
+}
+
+/// Whether a new client, brought to stand as a row says, answers so, and stands so then.
+fn answers(
+    alloc: Global,
+    core: &mut AskCore<Sha>,
+    played: &Played,
+    row: &Row,
+) -> Result<bool, AskFault> {
+    bring(alloc, core, played, row.0)?;
+    let bytes = bytes_of(alloc, row.1, &Sha::of(played.of.text))?;
+    let answer = bytes_answer(alloc, core, bytes);
+    Ok(answer == row.2 && standing_of(core, played)? == row.3)
+}
+
 /// Whether what comes is answered as a row says.
 fn is_met(alloc: Global, played: &Played, row: &Row) -> Result<bool, AskFault> {
-    let mut core = client_at(alloc, played, row.0)?;
-    let bytes = bytes_of(alloc, row.1, &Sha::of(played.of.text))?;
-    let answer = match read_reply(alloc, &mut link_with(alloc, bytes)) {
-        Ok(reply) => match core.take_reply(reply) {
-            Ok(told) => told_answer(&told),
-            Err(fault) => fault_answer(fault),
-        },
-        Err(stop) => stop_answer(stop),
-    };
-    Ok(answer == row.2 && standing_of(core, played)? == row.3)
+    let mut core = new_client(alloc, played)?;
+    answers(alloc, &mut core, played, row)
 }
 
 /// The number of the first row of a table that isn't met.

@@ -5,7 +5,7 @@ use core_stage::programs::{BOOL, UNIT};
 use core_stage::stage::{Stage, code_of};
 use core_terms::{Cause, Hash32, Piece, RoleKind};
 use digest_layer::Sha;
-use std::alloc::Global;
+use std::alloc::{AllocError, Global};
 use wire_form::Reply;
 
 /// How a session stands.
@@ -69,30 +69,35 @@ fn empty_proof(alloc: Global) -> Reply {
     }
 }
 
-/// A client whose session stands so.
-pub fn client_at(
+/// A client whose session is absent.
+pub fn new_client(alloc: Global, played: &Played) -> Result<AskCore<Sha>, AllocError> {
+    let code = code_of(alloc, played.of.text)?;
+    Ok(AskCore::new(alloc, code))
+}
+
+/// Brings a new client's session to stand so.
+pub fn bring(
     alloc: Global,
+    core: &mut AskCore<Sha>,
     played: &Played,
     standing: Standing,
-) -> Result<AskCore<Sha>, AskFault> {
-    let mut core = AskCore::new(alloc, code_of(alloc, played.of.text)?);
-    if standing == Standing::Absent {
-        return Ok(core);
+) -> Result<(), AskFault> {
+    match standing {
+        Standing::Absent => Ok(()),
+        Standing::Closed(cause) => {
+            hear(core, Reply::Closed { session: 0, cause });
+            Ok(())
+        }
+        _ => {
+            greet(core, played)?;
+            bring_greeting(alloc, core, standing)
+        }
     }
-    if let Standing::Closed(cause) = standing {
-        let _told = core.take_reply(Reply::Closed { session: 0, cause });
-        return Ok(core);
-    }
-    greet(&mut core, played)?;
-    if standing == Standing::Greeting {
-        return Ok(core);
-    }
-    if standing == Standing::Broken(PROOF) {
-        let _told = core.take_reply(empty_proof(alloc));
-        return Ok(core);
-    }
-    bring(alloc, &mut core, standing)?;
-    Ok(core)
+}
+
+/// Takes a reply, whatever it tells.
+fn hear(core: &mut AskCore<Sha>, reply: Reply) {
+    let _told = core.take_reply(reply);
 }
 
 /// Greets with the spelling of the state.
@@ -103,46 +108,81 @@ fn greet(core: &mut AskCore<Sha>, played: &Played) -> Result<(), AskFault> {
 }
 
 /// Brings a session that greets to stand so.
-fn bring(alloc: Global, core: &mut AskCore<Sha>, standing: Standing) -> Result<(), AskFault> {
+fn bring_greeting(
+    alloc: Global,
+    core: &mut AskCore<Sha>,
+    standing: Standing,
+) -> Result<(), AskFault> {
+    if standing == Standing::Greeting {
+        return Ok(());
+    }
+    if standing == Standing::Broken(PROOF) {
+        hear(core, empty_proof(alloc));
+        return Ok(());
+    }
     core.take_reply(Reply::Welcome { session: 1 })?;
+    bring_idle(alloc, core, standing)
+}
+
+/// Brings a session that is idle to stand so.
+fn bring_idle(alloc: Global, core: &mut AskCore<Sha>, standing: Standing) -> Result<(), AskFault> {
     match standing {
-        Standing::CallsQuery => {
-            core.call(1, QUERY, 1, &[])?;
-        }
-        Standing::CallsUpdate => {
-            core.call(1, UPDATE, 1, &[])?;
-        }
+        Standing::CallsQuery => call(core, QUERY),
+        Standing::CallsUpdate => call(core, UPDATE),
         Standing::Leaving => {
             core.bye(1)?;
+            Ok(())
         }
         Standing::Failed(_) => {
-            core.call(1, QUERY, 1, &[])?;
-            let _told = core.take_reply(empty_proof(alloc));
+            call(core, QUERY)?;
+            hear(core, empty_proof(alloc));
+            Ok(())
         }
-        _ => {}
+        _ => Ok(()),
     }
+}
+
+/// Calls a role, which takes no argument.
+fn call(core: &mut AskCore<Sha>, role: u16) -> Result<(), AskFault> {
+    core.call(1, role, 1, &[])?;
     Ok(())
 }
 
 /// How the session of a client stands, which isn't used any more.
-pub fn standing_of(core: AskCore<Sha>, played: &Played) -> Result<Standing, AskFault> {
-    let mut core = core;
-    // there is no session 0, so this changes nothing
-    if let Err(AskFault::Closed(cause)) = core.take_reply(Reply::Welcome { session: 0 }) {
+pub fn standing_of(core: &mut AskCore<Sha>, played: &Played) -> Result<Standing, AskFault> {
+    if let Some(cause) = closed_cause(core) {
         return Ok(Standing::Closed(cause));
     }
     if core.waiting(1) {
         return waiting_standing(core);
     }
     if let Some(state) = core.state(1) {
-        let same = state == Sha::of(played.held).0.as_slice();
-        return Ok(if same {
-            Standing::Idle
-        } else {
-            Standing::Moved
-        });
+        return Ok(idle_standing(state, played));
     }
-    match greet(&mut core, played) {
+    still_standing(core, played)
+}
+
+/// The cause with which all sessions were ended.
+fn closed_cause(core: &mut AskCore<Sha>) -> Option<u8> {
+    // there is no session 0, so this changes nothing
+    match core.take_reply(Reply::Welcome { session: 0 }) {
+        Err(AskFault::Closed(cause)) => Some(cause),
+        _ => None,
+    }
+}
+
+/// How a session stands that is idle at this state.
+fn idle_standing(state: &[u8], played: &Played) -> Standing {
+    if state == Sha::of(played.held).0.as_slice() {
+        Standing::Idle
+    } else {
+        Standing::Moved
+    }
+}
+
+/// How a session stands that neither waits nor is idle.
+fn still_standing(core: &mut AskCore<Sha>, played: &Played) -> Result<Standing, AskFault> {
+    match greet(core, played) {
         Ok(()) => Ok(Standing::Absent),
         Err(AskFault::Failed(cause)) => Ok(Standing::Failed(cause)),
         Err(AskFault::Broken(kind)) => Ok(Standing::Broken(kind)),
@@ -151,8 +191,7 @@ pub fn standing_of(core: AskCore<Sha>, played: &Played) -> Result<Standing, AskF
 }
 
 /// The same of one that waits for a reply. Of those without a state the one that leaves takes its end.
-fn waiting_standing(core: AskCore<Sha>) -> Result<Standing, AskFault> {
-    let mut core = core;
+fn waiting_standing(core: &mut AskCore<Sha>) -> Result<Standing, AskFault> {
     if let Some(called) = core.called(1) {
         return Ok(match called.kind {
             RoleKind::Update => Standing::CallsUpdate,

@@ -4,6 +4,7 @@ ghost use Rattle.ads_library.specs.Texts.{library_text};
 ghost use Rattle.code_gen.specs.Programs.{program_in};
 ghost use Rattle.command_words.specs.Commands.{texts};
 ghost use Rattle.command_words.specs.declared.command.Command.TheVariants.{Gen};
+ghost use Rattle.core_terms.specs.Limits.{most_program_bytes};
 ghost use Rattle.core_terms.specs.Programs.{meaning};
 ghost use Rattle.core_terms.specs.Values.{Value};
 ghost use Rattle.command_parts.specs.Answer.{answer_with};
@@ -111,7 +112,7 @@ const MOST_KEPT: u64 = 1_024;
 
 /// The code of the program of a text, which has at most 262,144 bytes.
 fn code_of_text(alloc: Global, text: &[u8]) -> Result<Code, Halt>
-    requires { length text.now ≤ 262144 }
+    requires { length text.now ≤ most_program_bytes }
     ensures { InHand (StepGives (with_text text.now) (λ code. named_of (program_in code))) result }
 {
     let program = read_program(alloc, text)?;

@@ -7,6 +7,17 @@ use core_terms::{Digest, MOST_PROGRAM_BYTES, Program};
 use lexemes::fault::{SyntaxFault, SyntaxKind};
 use printed_syntax::print::print;
 use std::alloc::{AllocError, Global};
+use std::test::Fail;
+
+/// What a test says of a row of its table that is not as it should be: the number of the row, from 0.
+pub fn failed_row(number: usize) -> Fail {
+    Fail::new(format_args!("row {number}"))
+}
+
+/// What it says of such a row where it has several tables: also the name of the row's table.
+pub fn failed_row_of(table: &str, number: usize) -> Fail {
+    Fail::new(format_args!("{table}: row {number}"))
+}
 
 /// A fault of a text's syntax: its kind, its line and its column.
 pub type Fault = (SyntaxKind, usize, usize);
@@ -67,7 +78,12 @@ pub type Misfit = (TypeKind, usize, usize);
 ///
 /// As `tree_of`.
 pub fn misfit_of(alloc: Global, text: &[u8]) -> Result<Option<Misfit>, AllocError> {
-    match check(alloc, &tree_of(alloc, text)?, Digest([7; 32])) {
+    misfit_in(alloc, &tree_of(alloc, text)?)
+}
+
+/// The first fault of a tree's types.
+fn misfit_in(alloc: Global, ast: &Ast) -> Result<Option<Misfit>, AllocError> {
+    match check(alloc, ast, Digest([7; 32])) {
         Ok(_) => Ok(None),
         Err(TypeFault::At(kind, at)) => Ok(Some((kind, at.line, at.column))),
         Err(TypeFault::NoMemory) => Err(AllocError),
@@ -110,6 +126,24 @@ impl Repeated {
         add_often(&mut text, self.closing, self.count)?;
         text.extend_from_slice(self.end)?;
         Ok(text)
+    }
+
+    /// The first fault of the text's syntax; none where the grammar takes it.
+    ///
+    /// # Errors
+    ///
+    /// As `fault_of`.
+    pub fn fault(&self, alloc: Global) -> Result<Option<Fault>, AllocError> {
+        fault_of(alloc, &self.text(alloc)?)
+    }
+
+    /// The first fault of the text's types; none where it is a program.
+    ///
+    /// # Errors
+    ///
+    /// As `misfit_of`.
+    pub fn misfit(&self, alloc: Global) -> Result<Option<Misfit>, AllocError> {
+        misfit_of(alloc, &self.text(alloc)?)
     }
 }
 

@@ -1,6 +1,6 @@
 // Arrays: the first fault of texts of the second format, and literals and printed values.
-use crate::answers::{Fault, Misfit, fault_of, misfit_of, program_of};
-use crate::literals::{Answer, is_spelled, read};
+use crate::answers::{Fault, Misfit, failed_row, fault_of, misfit_of, program_of};
+use crate::literals::{Answer, is_spelled, misread, read};
 use crate::values::is_printed;
 use auth_types::fault::TypeKind;
 use core_terms::Program;
@@ -86,7 +86,7 @@ static SYNTAX: [(&[u8], Option<Fault>); 18] = [
 fn arrays_have_their_first_fault(rt: HostRuntime) -> Result<(), Fail> {
     for (number, (text, fault)) in SYNTAX.iter().enumerate() {
         if fault_of(rt.alloc(), text)? != *fault {
-            return Err(Fail::new(format_args!("row {number}")));
+            return Err(failed_row(number));
         }
     }
     Ok(())
@@ -181,7 +181,7 @@ static TYPES: [(&[u8], Option<Misfit>); 20] = [
 fn arrays_have_their_types(rt: HostRuntime) -> Result<(), Fail> {
     for (number, (text, fault)) in TYPES.iter().enumerate() {
         if misfit_of(rt.alloc(), text)? != *fault {
-            return Err(Fail::new(format_args!("row {number}")));
+            return Err(failed_row(number));
         }
     }
     Ok(())
@@ -191,6 +191,21 @@ fn arrays_have_their_types(rt: HostRuntime) -> Result<(), Fail> {
 fn of_array(alloc: Global, ty: &str) -> Result<Program, AllocError> {
     let text = format!(in alloc; "format 2; type chain = End | More(vec[1] chain); state {ty};")?;
     program_of(alloc, text.as_bytes())
+}
+
+/// Whether a text is a literal of this type, spelled so.
+fn is_array_spelled(alloc: Global, ty: &str, text: &str, bytes: &[u8]) -> Result<bool, AllocError> {
+    Ok(is_spelled(alloc, &of_array(alloc, ty)?, text, bytes))
+}
+
+/// Whether the value of this type that these bytes spell is printed so.
+fn is_array_printed(alloc: Global, ty: &str, bytes: &[u8], text: &str) -> Result<bool, AllocError> {
+    Ok(is_printed(alloc, &of_array(alloc, ty)?, bytes, text))
+}
+
+/// Reads a text as a literal of this type.
+fn read_array(alloc: Global, ty: &str, text: &str) -> Result<Answer, AllocError> {
+    Ok(read(alloc, &of_array(alloc, ty)?, text))
 }
 
 /// The spelling of 7 and of 9.
@@ -224,11 +239,10 @@ const VALUES: [(&str, &[u8], &str, &str); 6] = [
 #[test]
 fn arrays_are_spelled_and_printed(rt: HostRuntime) -> Result<(), Fail> {
     for (ty, bytes, text, printed) in &VALUES {
-        let program = of_array(rt.alloc(), ty)?;
-        if !is_spelled(rt.alloc(), &program, text, bytes) {
+        if !is_array_spelled(rt.alloc(), ty, text, bytes)? {
             return Err(Fail::new(*text));
         }
-        if !is_printed(rt.alloc(), &program, bytes, printed) {
+        if !is_array_printed(rt.alloc(), ty, bytes, printed)? {
             return Err(Fail::new(*printed));
         }
     }
@@ -256,17 +270,23 @@ const MISMATCHES: [(&str, &str, usize); 13] = [
 fn other_texts_are_no_arrays(rt: HostRuntime) -> Result<(), Fail> {
     for (ty, text, offset) in &MISMATCHES {
         let wanted = Answer::Refused(LiteralKind::Mismatch, *offset);
-        if read(rt.alloc(), &of_array(rt.alloc(), ty)?, text) != wanted {
-            return Err(Fail::new(format_args!("{ty} {text}")));
+        if read_array(rt.alloc(), ty, text)? != wanted {
+            return Err(misread(ty, text));
         }
     }
     Ok(())
 }
 
+/// Reads a text as a literal of a program of the first format.
+fn read_int(alloc: Global, text: &str) -> Result<Answer, AllocError> {
+    Ok(read(alloc, &program_of(alloc, b"state int;")?, text))
+}
+
 #[test]
 fn brackets_are_no_marks_of_the_first_format(rt: HostRuntime) -> Result<(), Fail> {
-    let program = program_of(rt.alloc(), b"state int;")?;
     let wanted = Answer::Refused(LiteralKind::Lexical(LexicalFault::Char), 0);
-    assert!(rt; read(rt.alloc(), &program, "[7, 9]") == wanted);
+    if read_int(rt.alloc(), "[7, 9]")? != wanted {
+        return Err(misread("int", "[7, 9]"));
+    }
     Ok(())
 }

@@ -1,5 +1,5 @@
 // Texts with a format: those that are programs, the first fault of the others, and what is printed of them.
-use crate::answers::{Fault, fault_of, misfit_of, program_of};
+use crate::answers::{Fault, failed_row, fault_of, misfit_of, program_of};
 use crate::printed::{Row, is_printed_so};
 use ads_library::texts::{REDBLACK, SKIPLIST};
 use core_terms::Format;
@@ -65,7 +65,7 @@ static TEXTS: [(&[u8], Option<Fault>); 22] = [
 fn formats_are_read(rt: HostRuntime) -> Result<(), Fail> {
     for (number, (text, fault)) in TEXTS.iter().enumerate() {
         if fault_of(rt.alloc(), text)? != *fault {
-            return Err(Fail::new(format_args!("row {number}")));
+            return Err(failed_row(number));
         }
     }
     Ok(())
@@ -78,11 +78,18 @@ const LIMITS: [(&[u8], Format, usize); 3] = [
     (b"format 2; state unit;", Format::Second, 1_048_576),
 ];
 
+/// Whether the program of a text tells this format and this limit.
+fn tells(alloc: Global, text: &[u8], format: Format, limit: usize) -> Result<bool, AllocError> {
+    let program = program_of(alloc, text)?;
+    Ok(program.format() == format && program.spelling_limit() == limit)
+}
+
 #[test]
 fn a_program_tells_its_format(rt: HostRuntime) -> Result<(), Fail> {
-    for (text, format, limit) in &LIMITS {
-        let program = program_of(rt.alloc(), text)?;
-        assert!(rt; program.format() == *format && program.spelling_limit() == *limit);
+    for (number, (text, format, limit)) in LIMITS.iter().enumerate() {
+        if !tells(rt.alloc(), text, *format, *limit)? {
+            return Err(failed_row(number));
+        }
     }
     Ok(())
 }
@@ -142,7 +149,7 @@ static PRINTED: [Row; 9] = [
 fn formats_and_arrays_are_printed(rt: HostRuntime) -> Result<(), Fail> {
     for (number, (text, wanted)) in PRINTED.iter().enumerate() {
         if !is_printed_so(rt.alloc(), text, wanted)? {
-            return Err(Fail::new(format_args!("row {number}")));
+            return Err(failed_row(number));
         }
     }
     Ok(())

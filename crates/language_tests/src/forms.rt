@@ -1,5 +1,5 @@
 // Texts that are programs: each form of the grammar.
-use crate::answers::fault_of;
+use crate::answers::{failed_row_of, fault_of};
 use std::alloc::{AllocError, Global};
 use std::test::Fail;
 
@@ -90,7 +90,7 @@ const TABLES: [(&str, &[&[u8]]); 3] = [
 fn each_form_is_parsed(rt: HostRuntime) -> Result<(), Fail> {
     for (table, texts) in &TABLES {
         if let Some(number) = no_program(rt.alloc(), texts)? {
-            return Err(Fail::new(format_args!("{table}: row {number}")));
+            return Err(failed_row_of(table, number));
         }
     }
     Ok(())

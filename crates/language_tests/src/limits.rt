@@ -1,6 +1,7 @@
 // How long names, texts and lists may be.
-use crate::answers::{Fault, Repeated, fault_of};
+use crate::answers::{Fault, Repeated, failed_row};
 use lexemes::fault::{LexicalFault, SyntaxKind};
+use std::alloc::{AllocError, Global};
 use std::test::Fail;
 
 /// A beginning, a part, how often it stands, and an end, with the first fault of this text.
@@ -83,19 +84,27 @@ static ROWS: [Row; 19] = [
     (b"type t = ", b"A|", 60_000, b"A;", None),
 ];
 
+/// Whether the text of a row has its first fault.
+fn is_answered(
+    alloc: Global,
+    (beginning, part, count, end, fault): &Row,
+) -> Result<bool, AllocError> {
+    let text = Repeated {
+        beginning,
+        part,
+        count: *count,
+        middle: end,
+        closing: b"",
+        end: b"",
+    };
+    Ok(text.fault(alloc)? == *fault)
+}
+
 #[test]
 fn names_texts_and_lists_have_their_limits(rt: HostRuntime) -> Result<(), Fail> {
-    for (number, (beginning, part, count, end, fault)) in ROWS.iter().enumerate() {
-        let text = Repeated {
-            beginning,
-            part,
-            count: *count,
-            middle: end,
-            closing: b"",
-            end: b"",
-        };
-        if fault_of(rt.alloc(), &text.text(rt.alloc())?)? != *fault {
-            return Err(Fail::new(format_args!("row {number}")));
+    for (number, row) in ROWS.iter().enumerate() {
+        if !is_answered(rt.alloc(), row)? {
+            return Err(failed_row(number));
         }
     }
     Ok(())

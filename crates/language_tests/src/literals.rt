@@ -1,5 +1,5 @@
 // Literals: how they are spelled, the first fault of texts that are none of a type, and how deep and how long they may be.
-use crate::answers::program_of;
+use crate::answers::{failed_row, program_of};
 use core_terms::Program;
 use lexemes::fault::LexicalFault;
 use printed_syntax::fault::{LiteralFault, LiteralKind};
@@ -21,6 +21,11 @@ pub fn is_spelled(alloc: Global, program: &Program, text: &str, wanted: &[u8]) -
         Ok(spelling) => spelling.as_bytes() == wanted,
         Err(_) => false,
     }
+}
+
+/// Whether a text is a literal of this type, spelled so.
+fn has_spelling(alloc: Global, ty: &str, text: &str, wanted: &[u8]) -> Result<bool, AllocError> {
+    Ok(is_spelled(alloc, &of_type(alloc, ty)?, text, wanted))
 }
 
 /// Types, literals and their spellings.
@@ -53,7 +58,7 @@ const SPELLINGS: [(&str, &str, &[u8]); 11] = [
 #[test]
 fn literals_are_spelled(rt: HostRuntime) -> Result<(), Fail> {
     for (ty, text, spelling) in &SPELLINGS {
-        if !is_spelled(rt.alloc(), &of_type(rt.alloc(), ty)?, text, spelling) {
+        if !has_spelling(rt.alloc(), ty, text, spelling)? {
             return Err(Fail::new(*text));
         }
     }
@@ -75,6 +80,16 @@ pub fn read(alloc: Global, program: &Program, text: &str) -> Answer {
         Err(LiteralFault::At(kind, offset)) => Answer::Refused(kind, offset),
         Err(LiteralFault::NoMemory) => Answer::NoMemory,
     }
+}
+
+/// Reads a text as a literal of this type.
+fn answer_of(alloc: Global, ty: &str, text: &str) -> Result<Answer, AllocError> {
+    Ok(read(alloc, &of_type(alloc, ty)?, text))
+}
+
+/// What a test says of a text that is not read as it should be: the type and the text.
+pub fn misread(ty: &str, text: &str) -> Fail {
+    Fail::new(format_args!("{ty} {text}"))
 }
 
 /// Types, texts with a token that no literal of the type has there, and how many bytes stand before it.
@@ -141,8 +156,8 @@ const MISMATCHES: [(&str, &str, usize); 52] = [
 fn other_texts_are_no_literals(rt: HostRuntime) -> Result<(), Fail> {
     for (ty, text, offset) in &MISMATCHES {
         let wanted = Answer::Refused(LiteralKind::Mismatch, *offset);
-        if read(rt.alloc(), &of_type(rt.alloc(), ty)?, text) != wanted {
-            return Err(Fail::new(format_args!("{ty} {text}")));
+        if answer_of(rt.alloc(), ty, text)? != wanted {
+            return Err(misread(ty, text));
         }
     }
     Ok(())
@@ -175,8 +190,8 @@ const BEHIND: [(&str, &str, Answer); 4] = [
 #[test]
 fn faults_behind_a_literal_are_told(rt: HostRuntime) -> Result<(), Fail> {
     for (ty, text, wanted) in &BEHIND {
-        if read(rt.alloc(), &of_type(rt.alloc(), ty)?, text) != *wanted {
-            return Err(Fail::new(format_args!("{ty} {text}")));
+        if answer_of(rt.alloc(), ty, text)? != *wanted {
+            return Err(misread(ty, text));
         }
     }
     Ok(())
@@ -254,12 +269,16 @@ fn repeated(alloc: Global, parts: Parts) -> Result<String, AllocError> {
     Ok(text)
 }
 
+/// Reads the text of these parts as a literal of this type.
+fn answer_of_parts(alloc: Global, ty: &str, parts: Parts) -> Result<Answer, AllocError> {
+    answer_of(alloc, ty, &repeated(alloc, parts)?)
+}
+
 #[test]
 fn literals_have_their_limits(rt: HostRuntime) -> Result<(), Fail> {
     for (number, (ty, parts, wanted)) in LONG.iter().enumerate() {
-        let text = repeated(rt.alloc(), *parts)?;
-        if read(rt.alloc(), &of_type(rt.alloc(), ty)?, &text) != *wanted {
-            return Err(Fail::new(format_args!("row {number}")));
+        if answer_of_parts(rt.alloc(), ty, *parts)? != *wanted {
+            return Err(failed_row(number));
         }
     }
     Ok(())

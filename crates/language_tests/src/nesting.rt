@@ -1,5 +1,5 @@
 // How deep types and expressions may be nested: 100 levels.
-use crate::answers::{Fault, Repeated, fault_of};
+use crate::answers::{Fault, Repeated, failed_row};
 use lexemes::fault::SyntaxKind;
 use std::alloc::{AllocError, Global};
 use std::test::Fail;
@@ -59,7 +59,7 @@ fn fault_around(
         closing,
         end,
     };
-    fault_of(alloc, &nested.text(alloc)?)
+    nested.fault(alloc)
 }
 
 /// Whether 99 of a form are taken around something, and of 100 the first token on level 101 is refused.
@@ -108,7 +108,7 @@ fn all_end_at_level_100(alloc: Global, written: [&'static [u8]; 3]) -> Result<bo
 fn types_are_nested_in_100_levels(rt: HostRuntime) -> Result<(), Fail> {
     for (number, written) in WRITTEN_TYPES.iter().enumerate() {
         if !all_end_at_level_100(rt.alloc(), *written)? {
-            return Err(Fail::new(format_args!("row {number}")));
+            return Err(failed_row(number));
         }
     }
     Ok(())
@@ -136,7 +136,7 @@ fn what_begins_nothing_is_not_too_nested(rt: HostRuntime) -> Result<(), Fail> {
         let written: [&[u8]; 3] = [b"fun f(x: t): t = ", middle, b";"];
         let fault = fault_around(rt.alloc(), (b"not(", b")", 4), 100, written)?;
         if fault != Some((*kind, 1, 418)) {
-            return Err(Fail::new(format_args!("row {number}")));
+            return Err(failed_row(number));
         }
     }
     Ok(())

@@ -1,5 +1,5 @@
 // Texts, and what they are printed as once they are parsed.
-use crate::answers::printed;
+use crate::answers::{failed_row, printed};
 use program_texts::{BST, MERKLE};
 use std::alloc::{AllocError, Global};
 use std::test::Fail;
@@ -78,7 +78,7 @@ fun look(t: auth tree, k: int): found = match unauth(t) with | Leaf -> Missing |
 fn texts_are_printed(rt: HostRuntime) -> Result<(), Fail> {
     for (number, (text, wanted)) in TEXTS.iter().enumerate() {
         if !is_printed_so(rt.alloc(), text, wanted)? {
-            return Err(Fail::new(format_args!("row {number}")));
+            return Err(failed_row(number));
         }
     }
     Ok(())
@@ -105,7 +105,7 @@ static PROGRAMS: [(&[u8], &[u8]); 2] = [
 fn programs_of_some_size_are_printed(rt: HostRuntime) -> Result<(), Fail> {
     for (number, (text, beginning)) in PROGRAMS.iter().enumerate() {
         if !is_printed_from(rt.alloc(), text, beginning)? {
-            return Err(Fail::new(format_args!("row {number}")));
+            return Err(failed_row(number));
         }
     }
     Ok(())

@@ -1,5 +1,5 @@
 // Texts that are programs, and what a program tells of itself.
-use crate::answers::{Repeated, misfit_of, program_of, tree_of};
+use crate::answers::{Repeated, failed_row, misfit_of, program_of, tree_of};
 use core_terms::{Program, RoleId, RoleKind, TyId};
 use program_texts::{BST, LOG, MERKLE};
 use std::alloc::{AllocError, Global};
@@ -33,7 +33,7 @@ static PROGRAMS: [&[u8]; 16] = [
 fn programs_are_taken(rt: HostRuntime) -> Result<(), Fail> {
     for (number, text) in PROGRAMS.iter().enumerate() {
         if misfit_of(rt.alloc(), text)?.is_some() {
-            return Err(Fail::new(format_args!("row {number}")));
+            return Err(failed_row(number));
         }
     }
     Ok(())
@@ -63,15 +63,16 @@ const STATES: [(&str, bool); 5] = [
     ("int", false),
 ];
 
-/// Whether the program has the three named types, and a state in which an `auth` stands if it is to.
-fn is_of_state(program: &Program, has_auth: bool) -> bool {
-    program.named_types().len() == 3 && program.has_auth(program.state_type()) == has_auth
+/// Whether the program of a state has the three named types, and an `auth` stands in the state if it is to.
+fn is_of_state(alloc: Global, state: &str, has_auth: bool) -> Result<bool, AllocError> {
+    let program = of_state(alloc, state)?;
+    Ok(program.named_types().len() == 3 && program.has_auth(program.state_type()) == has_auth)
 }
 
 #[test]
 fn an_auth_is_found_through_named_types(rt: HostRuntime) -> Result<(), Fail> {
     for (state, has_auth) in &STATES {
-        if !is_of_state(&of_state(rt.alloc(), state)?, *has_auth) {
+        if !is_of_state(rt.alloc(), state, *has_auth)? {
             return Err(Fail::new(*state));
         }
     }
@@ -83,6 +84,20 @@ fn count_of_auths(program: &Program) -> usize {
     (0..program.type_count())
         .filter(|number| program.has_auth(TyId(*number)))
         .count()
+}
+
+/// In how many types an `auth` stands where 90 lets follow on a beginning.
+fn count_behind(alloc: Global, beginning: &'static [u8]) -> Result<usize, AllocError> {
+    let lets = Repeated {
+        beginning,
+        part: b"let x = (x, x) in\n",
+        count: 90,
+        middle: b"0;",
+        closing: b"",
+        end: b"",
+    };
+    let text = lets.text(alloc)?;
+    Ok(count_of_auths(&program_of(alloc, &text)?))
 }
 
 /// The beginning of a function, and in how many types an `auth` stands where 90 lets each bind a pair of the last one, from the parameter
@@ -98,17 +113,8 @@ static LONG: [(&[u8], usize); 2] = [
 #[test]
 fn an_auth_is_found_in_long_types(rt: HostRuntime) -> Result<(), Fail> {
     for (number, (beginning, count)) in LONG.iter().enumerate() {
-        let lets = Repeated {
-            beginning,
-            part: b"let x = (x, x) in\n",
-            count: 90,
-            middle: b"0;",
-            closing: b"",
-            end: b"",
-        };
-        let text = lets.text(rt.alloc())?;
-        if count_of_auths(&program_of(rt.alloc(), &text)?) != *count {
-            return Err(Fail::new(format_args!("row {number}")));
+        if count_behind(rt.alloc(), beginning)? != *count {
+            return Err(failed_row(number));
         }
     }
     Ok(())
@@ -153,9 +159,14 @@ fn tells_nothing_else(program: &Program) -> bool {
         && program.text_digest().0 == [7; 32]
 }
 
+/// Whether the program of `KINDS` tells of its roles alone.
+fn tells_kinds(alloc: Global) -> Result<bool, AllocError> {
+    let program = program_of(alloc, KINDS)?;
+    Ok(tells_roles(&program) && tells_nothing_else(&program))
+}
+
 #[test]
 fn roles_are_told(rt: HostRuntime) -> Result<(), Fail> {
-    let program = program_of(rt.alloc(), KINDS)?;
-    assert!(rt; tells_roles(&program) && tells_nothing_else(&program));
+    assert!(rt; tells_kinds(rt.alloc())?);
     Ok(())
 }

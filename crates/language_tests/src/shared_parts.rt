@@ -53,33 +53,57 @@ fn printed_length(alloc: Global, program: &Program, level: usize) -> Option<usiz
     }
 }
 
+/// Whether the value of pairs at ten levels has a text of its length.
+fn are_ten_printed(alloc: Global) -> Result<bool, AllocError> {
+    let pairs = level_program(alloc, false)?;
+    Ok(printed_length(alloc, &pairs, 10) == Some(6_140))
+}
+
+/// Whether the value at a level of pairs or of arrays is printed so.
+fn is_short_printed(
+    alloc: Global,
+    are_arrays: bool,
+    level: usize,
+    text: &[u8],
+) -> Result<bool, AllocError> {
+    let program = level_program(alloc, are_arrays)?;
+    Ok(is_printed(alloc, &program, level, text))
+}
+
 #[test]
 fn short_texts_are_printed(rt: HostRuntime) -> Result<(), Fail> {
-    let pairs = level_program(rt.alloc(), false)?;
-    let arrays = level_program(rt.alloc(), true)?;
     let three = b"((((), ()), ((), ())), (((), ()), ((), ())))";
     let two = b"[[(), (), ()], [(), (), ()], [(), (), ()]]";
-    if !is_printed(rt.alloc(), &pairs, 3, three) || !is_printed(rt.alloc(), &arrays, 2, two) {
+    if !is_short_printed(rt.alloc(), false, 3, three)?
+        || !is_short_printed(rt.alloc(), true, 2, two)?
+    {
         return Err(Fail::new("short"));
     }
-    if printed_length(rt.alloc(), &pairs, 10) != Some(6_140) {
+    if !are_ten_printed(rt.alloc())? {
         return Err(Fail::new("ten levels"));
     }
     Ok(())
 }
 
+/// The first of the high levels whose value is printed; none where each is refused.
+fn printed_level(alloc: Global, are_arrays: bool) -> Result<Option<usize>, AllocError> {
+    let program = level_program(alloc, are_arrays)?;
+    for level in [TOO_LONG, 40, 64, 512, LEVELS] {
+        if printed_length(alloc, &program, level).is_some() {
+            return Ok(Some(level));
+        }
+    }
+    Ok(None)
+}
+
 /// Each text here would have more than 2^32 bytes, and most more than a memory could ever hold.
 #[test]
 fn long_texts_are_refused_at_once(rt: HostRuntime) -> Result<(), Fail> {
-    let pairs = level_program(rt.alloc(), false)?;
-    let arrays = level_program(rt.alloc(), true)?;
-    for level in [TOO_LONG, 40, 64, 512, LEVELS] {
-        if printed_length(rt.alloc(), &pairs, level).is_some() {
-            return Err(Fail::new(format_args!("pairs at {level}")));
-        }
-        if printed_length(rt.alloc(), &arrays, level).is_some() {
-            return Err(Fail::new(format_args!("arrays at {level}")));
-        }
+    if let Some(level) = printed_level(rt.alloc(), false)? {
+        return Err(Fail::new(format_args!("pairs at {level}")));
+    }
+    if let Some(level) = printed_level(rt.alloc(), true)? {
+        return Err(Fail::new(format_args!("arrays at {level}")));
     }
     Ok(())
 }

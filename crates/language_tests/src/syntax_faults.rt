@@ -1,5 +1,5 @@
 // The first fault of texts that are no programs: its kind and its place. Lines and columns are counted by bytes, from 1.
-use crate::answers::fault_of;
+use crate::answers::{failed_row_of, fault_of};
 use lexemes::fault::{LexicalFault, SyntaxKind};
 use std::alloc::{AllocError, Global};
 use std::test::Fail;
@@ -417,7 +417,7 @@ const TABLES: [(&str, &[Row]); 6] = [
 fn texts_have_their_first_fault(rt: HostRuntime) -> Result<(), Fail> {
     for (table, rows) in &TABLES {
         if let Some(number) = wrong_row(rt.alloc(), rows)? {
-            return Err(Fail::new(format_args!("{table}: row {number}")));
+            return Err(failed_row_of(table, number));
         }
     }
     Ok(())

@@ -199,18 +199,35 @@ fn is_arm_of(arm: &Arm, constructor: &[u8], letters: &[u8]) -> bool {
     true
 }
 
+/// The first part of a tree that is not as `PARTS` has it.
+fn lost_part(ast: &Ast) -> Option<&'static str> {
+    let [shape, bound, conditional, matched] = ast.declarations.as_slice() else {
+        return Some("not four declarations");
+    };
+    if !is_shape(shape) {
+        return Some("no shape");
+    }
+    if !body_of(bound).is_some_and(is_let) {
+        return Some("no let");
+    }
+    if !body_of(conditional).is_some_and(is_if) {
+        return Some("no if");
+    }
+    if !body_of(matched).is_some_and(is_match) {
+        return Some("no match");
+    }
+    if ast.end.offset != PARTS.len() {
+        return Some("another end");
+    }
+    None
+}
+
 #[test]
 fn parts_are_kept(rt: HostRuntime) -> Result<(), Fail> {
-    let ast = tree_of(rt.alloc(), PARTS)?;
-    let [shape, bound, conditional, matched] = ast.declarations.as_slice() else {
-        panic!(rt; "not four declarations");
-    };
-    assert!(rt; is_shape(shape));
-    assert!(rt; body_of(bound).is_some_and(is_let));
-    assert!(rt; body_of(conditional).is_some_and(is_if));
-    assert!(rt; body_of(matched).is_some_and(is_match));
-    assert!(rt; ast.end.offset == PARTS.len());
-    Ok(())
+    match lost_part(&tree_of(rt.alloc(), PARTS)?) {
+        Some(part) => Err(Fail::new(part)),
+        None => Ok(()),
+    }
 }
 
 /// A program of a state, an init and a query.
@@ -230,11 +247,24 @@ fn is_open(declaration: &Declaration) -> bool {
         && matches!(open.body, ExpTree::Unary(_, _, _))
 }
 
+/// The first part of a tree that is not as `PROGRAM` has it.
+fn lost_part_of_program(ast: &Ast) -> Option<&'static str> {
+    if ast.declarations.len() != 3 {
+        return Some("not three declarations");
+    }
+    if !ast.declarations.last().is_some_and(is_open) {
+        return Some("no open");
+    }
+    if ast.end.offset != PROGRAM.len() {
+        return Some("another end");
+    }
+    None
+}
+
 #[test]
 fn a_program_is_parsed(rt: HostRuntime) -> Result<(), Fail> {
-    let ast = tree_of(rt.alloc(), PROGRAM)?;
-    assert!(rt; ast.declarations.len() == 3);
-    assert!(rt; ast.declarations.last().is_some_and(is_open));
-    assert!(rt; ast.end.offset == PROGRAM.len());
-    Ok(())
+    match lost_part_of_program(&tree_of(rt.alloc(), PROGRAM)?) {
+        Some(part) => Err(Fail::new(part)),
+        None => Ok(()),
+    }
 }

@@ -1,5 +1,5 @@
 // The first fault of texts that the grammar takes and the rules refuse: its kind and its place.
-use crate::answers::misfit_of;
+use crate::answers::{failed_row_of, misfit_of};
 use auth_types::fault::{Limited, TypeKind};
 use std::alloc::{AllocError, Global};
 use std::test::Fail;
@@ -662,7 +662,7 @@ const TABLES: [(&str, &[Row]); 11] = [
 fn texts_have_their_first_fault(rt: HostRuntime) -> Result<(), Fail> {
     for (table, rows) in &TABLES {
         if let Some(number) = wrong_row(rt.alloc(), rows)? {
-            return Err(Fail::new(format_args!("{table}: row {number}")));
+            return Err(failed_row_of(table, number));
         }
     }
     Ok(())

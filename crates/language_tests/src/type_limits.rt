@@ -1,5 +1,5 @@
 // How many there may be of what only long texts reach, and types that are long when they are written.
-use crate::answers::{Misfit, Repeated, misfit_of};
+use crate::answers::{Misfit, Repeated, failed_row, misfit_of};
 use auth_types::fault::{Limited, TypeKind};
 use std::alloc::{AllocError, Global};
 use std::test::Fail;
@@ -86,7 +86,7 @@ fn there_are_so_many_at_most(rt: HostRuntime) -> Result<(), Fail> {
         let mut text = numbered(rt.alloc(), beginning, *count, *part)?;
         text.extend_from_slice(end)?;
         if misfit_of(rt.alloc(), &text)? != *answer {
-            return Err(Fail::new(format_args!("row {number}")));
+            return Err(failed_row(number));
         }
     }
     Ok(())
@@ -124,8 +124,8 @@ fn there_are_255_locals_at_most(rt: HostRuntime) -> Result<(), Fail> {
             closing: b" end",
             end: b";",
         };
-        if misfit_of(rt.alloc(), &text.text(rt.alloc())?)? != *answer {
-            return Err(Fail::new(format_args!("row {number}")));
+        if text.misfit(rt.alloc())? != *answer {
+            return Err(failed_row(number));
         }
     }
     Ok(())
@@ -159,8 +159,8 @@ fn a_type_is_one_number_however_long_it_is(rt: HostRuntime) -> Result<(), Fail> 
             closing: b"",
             end: b"",
         };
-        if misfit_of(rt.alloc(), &text.text(rt.alloc())?)? != *answer {
-            return Err(Fail::new(format_args!("row {number}")));
+        if text.misfit(rt.alloc())? != *answer {
+            return Err(failed_row(number));
         }
     }
     Ok(())

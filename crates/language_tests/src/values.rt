@@ -2,7 +2,7 @@
 use crate::literals::of_type;
 use core_terms::Program;
 use printed_syntax::printing::print_value;
-use std::alloc::Global;
+use std::alloc::{AllocError, Global};
 use std::test::Fail;
 
 /// Whether the value of the state's type that these bytes spell is printed so.
@@ -11,6 +11,11 @@ pub fn is_printed(alloc: Global, program: &Program, bytes: &[u8], text: &str) ->
         Ok(printed) => printed.as_slice() == text.as_bytes(),
         Err(_) => false,
     }
+}
+
+/// Whether the value of this type that these bytes spell is printed so.
+fn has_text(alloc: Global, ty: &str, bytes: &[u8], text: &str) -> Result<bool, AllocError> {
+    Ok(is_printed(alloc, &of_type(alloc, ty)?, bytes, text))
 }
 
 /// Types, spellings and what is printed of them.
@@ -39,7 +44,7 @@ const VALUES: [(&str, &[u8], &str); 7] = [
 #[test]
 fn values_are_printed(rt: HostRuntime) -> Result<(), Fail> {
     for (ty, bytes, text) in &VALUES {
-        if !is_printed(rt.alloc(), &of_type(rt.alloc(), ty)?, bytes, text) {
+        if !has_text(rt.alloc(), ty, bytes, text)? {
             return Err(Fail::new(*text));
         }
     }

@@ -2,6 +2,7 @@
 #![tactic(auto)]
 
 ghost use Rattle.std.specs.Prelude.{◌≡◌, ◌≤◌, length, Some, IfOk};
+ghost use Rattle.core_terms.specs.Limits.{most_program_bytes};
 ghost use Rattle.core_terms.specs.Programs.{meaning};
 ghost use Rattle.ideal_meaning.specs.Library as library;
 ghost use Rattle.ads_library.specs.RedBlackProgram as red_black;
@@ -22,7 +23,7 @@ pub mod laws;
 ///
 /// `AllocError` where memory runs out, or where the text is no program.
 fn read(alloc: Global, text: &[u8]) -> Result<Program, AllocError>
-    requires { length text.now ≤ 262144 }
+    requires { length text.now ≤ most_program_bytes }
     ensures { IfOk result (λ p. program_read text.now ≡ Some (meaning p)) }
 {
     match parse(alloc, text) {

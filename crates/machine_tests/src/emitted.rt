@@ -262,21 +262,38 @@ fn first_instructions(code: &Code) -> &[Instruction] {
     }
 }
 
-/// Checks the instructions of a function.
-fn check_row(alloc: Global, (function, expected): Row) -> Result<(), Fail> {
-    let text = format!(in alloc; "{function}{BEHIND}")?;
-    let code = code_of(alloc, text.as_bytes())?;
-    let instructions = first_instructions(&code);
+/// Checks an instruction of a function.
+fn check_instruction(
+    alloc: Global,
+    function: &str,
+    instruction: &Instruction,
+    wanted: &str,
+) -> Result<(), Fail> {
+    let told = told(alloc, instruction)?;
+    if told.as_str() != wanted {
+        return Err(Fail::new(format_args!("{function}: {told} for {wanted}")));
+    }
+    Ok(())
+}
+
+/// Checks the instructions of a function of this code.
+fn check_instructions(alloc: Global, code: &Code, (function, expected): Row) -> Result<(), Fail> {
+    let instructions = first_instructions(code);
     if instructions.len() != expected.len() {
         return Err(Fail::new(format_args!("{function}: {} instructions", instructions.len())));
     }
     for (instruction, wanted) in instructions.iter().zip(expected) {
-        let told = told(alloc, instruction)?;
-        if told.as_str() != *wanted {
-            return Err(Fail::new(format_args!("{function}: {told} for {wanted}")));
-        }
+        check_instruction(alloc, function, instruction, wanted)?;
     }
     Ok(())
+}
+
+/// Checks the instructions of a function.
+fn check_row(alloc: Global, row: Row) -> Result<(), Fail> {
+    let function = row.0;
+    let text = format!(in alloc; "{function}{BEHIND}")?;
+    let code = code_of(alloc, text.as_bytes())?;
+    check_instructions(alloc, &code, row)
 }
 
 #[test]

@@ -82,11 +82,26 @@ pub fn check_ends(
     if told.as_str() != end {
         return Err(Fail::new(format_args!("with {fuel}: {told}")));
     }
-    for units in SLICES {
-        let (told, pauses) = run_in_slices(alloc, code, argument, fuel, units)?;
-        if told.as_str() != end || calls.saturating_sub(1).checked_div(units) != Some(pauses) {
-            return Err(Fail::new(format_args!("with {fuel}, by {units}: {told}, {pauses} pauses")));
-        }
+    for units in &SLICES {
+        let due = calls.saturating_sub(1).checked_div(*units);
+        check_slices(alloc, code, argument, fuel, *units, due, end)?;
+    }
+    Ok(())
+}
+
+/// Checks how a call ends in slices of so many calls, and that it pauses as often as is due.
+fn check_slices(
+    alloc: Global,
+    code: &Code,
+    argument: i64,
+    fuel: u64,
+    units: u64,
+    due: Option<u64>,
+    end: &str,
+) -> Result<(), Fail> {
+    let (told, pauses) = run_in_slices(alloc, code, argument, fuel, units)?;
+    if told.as_str() != end || due != Some(pauses) {
+        return Err(Fail::new(format_args!("with {fuel}, by {units}: {told}, {pauses} pauses")));
     }
     Ok(())
 }

@@ -1,6 +1,6 @@
 // Scalars in hand beside those that have a node: a part of a value, an argument, what is opened.
 use crate::stage::{code_of, run, run_counted};
-use std::alloc::Global;
+use std::alloc::{AllocError, Global};
 use std::test::Fail;
 
 /// What stands behind the function that is called.
@@ -58,15 +58,25 @@ const ROWS: [Row; 22] = [
     ("bool", "not(unauth(auth(lt(x, 3))))", 3, "true"),
 ];
 
+/// How an expression of this type ends at an int.
+fn told_at(alloc: Global, ty: &str, expression: &str, at: i64) -> Result<String, AllocError> {
+    let text = format!(in alloc; "fun f(x: int): {ty} = {expression};{BEHIND}")?;
+    let code = code_of(alloc, text.as_bytes())?;
+    run(alloc, &code, at, 10)
+}
+
+fn check_row(alloc: Global, (ty, expression, argument, expected): Row) -> Result<(), Fail> {
+    let told = told_at(alloc, ty, expression, argument)?;
+    if told.as_str() != expected {
+        return Err(Fail::new(format_args!("{expression} at {argument}: {told}")));
+    }
+    Ok(())
+}
+
 #[test]
 fn scalars_in_hand_are_what_those_with_a_node_are(rt: HostRuntime) -> Result<(), Fail> {
-    for (ty, expression, argument, expected) in ROWS {
-        let text = format!(in rt.alloc(); "fun f(x: int): {ty} = {expression};{BEHIND}")?;
-        let code = code_of(rt.alloc(), text.as_bytes())?;
-        let told = run(rt.alloc(), &code, argument, 10)?;
-        if told.as_str() != expected {
-            return Err(Fail::new(format_args!("{expression} at {argument}: {told}")));
-        }
+    for row in &ROWS {
+        check_row(rt.alloc(), *row)?;
     }
     Ok(())
 }

@@ -2,8 +2,10 @@
 ghost use Rattle.std.specs.Prelude.{◌<◌};
 
 use crate::messages::{answers, conversation};
-use cli_stage::runs::{Peers, Run, kept, made, run_on_net};
-use cli_stage::stage::{STATE, staged};
+use crate::states::state;
+use crate::telling::{is_told_to, link};
+use cli_stage::runs::{Peers, Run, run_on_net};
+use cli_stage::stage::{STATE, Stage, staged};
 use program_texts::{FIRST, SWITCH};
 use std::alloc::{AllocError, Global};
 use std::test::Fail;
@@ -27,35 +29,54 @@ pub static NONE: Failing<'static> = Failing {
     writes: &[],
 };
 
-/// Asks a server that replies so, where so many bytes move at once.
+/// Asks a server that replies so at a state of a program, where so many bytes move at once.
+fn ask_at<R: Threads + Sync>(
+    rt: &R,
+    alloc: Global,
+    stage: &Stage,
+    replies: &[u8],
+    most: usize,
+    failing: &Failing,
+) -> Result<(Run, Vec<u8>), AllocError>
+    requires read { 0 < stage.now.most_read }
+    requires moved { 0 < most }
+{
+    let links = link(alloc, replies)?;
+    let peers = Peers {
+        bytes: &links,
+        most,
+        failing: failing.net,
+    };
+    let words = ["ask", "p", "s", "4711", "q", "o"];
+    let writes = (100, failing.writes);
+    run_on_net(rt, alloc, stage, &words, &peers, failing.files, writes)
+}
+
+/// Plays the script with a server that replies so.
 fn ask<R: Threads + Sync>(
     rt: &R,
     alloc: Global,
-    script: &[u8],
     replies: &[u8],
     most: usize,
     failing: &Failing,
 ) -> Result<(Run, Vec<u8>), AllocError>
     requires { 0 < most }
 {
-    let mut bytes = Vec::new(alloc);
-    bytes.push(Vec::from_slice(alloc, replies)?)?;
-    let peers = Peers {
-        bytes: &bytes,
-        most,
-        failing: failing.net,
-    };
-    let stage = staged(FIRST, &STATE, script);
-    let words = ["ask", "p", "s", "4711", "q", "o"];
-    run_on_net(
-        rt,
-        alloc,
-        &stage,
-        &words,
-        &peers,
-        failing.files,
-        (100, failing.writes),
-    )
+    let stage = staged(FIRST, &STATE, SCRIPT);
+    ask_at(rt, alloc, &stage, replies, most, failing)
+}
+
+/// Plays the script with a server that answers all of it.
+fn ask_answered<R: Threads + Sync>(
+    rt: &R,
+    alloc: Global,
+    most: usize,
+    failing: &Failing,
+) -> Result<(Run, Vec<u8>), AllocError>
+    requires { 0 < most }
+{
+    let replies = answers(alloc, FRAMES)?;
+    ask(rt, alloc, &replies, most, failing)
 }
 
 /// Frames with one new piece of no bytes.
@@ -71,10 +92,9 @@ static SIZES: [usize; 5] = [1, 2, 3, 7, 4096];
 fn is_whole<R: Threads + Sync>(rt: &R, alloc: Global, most: usize) -> Result<bool, AllocError>
     requires { 0 < most }
 {
-    let replies = answers(alloc, FRAMES)?;
-    let (run, sent) = ask(rt, alloc, SCRIPT, &replies, most, &NONE)?;
     let said = conversation(alloc, FIRST, &STATE, 1, u32::MAX)?;
-    Ok(run.stores(0, WHOLE, &STATE) && sent.as_slice() == said.as_slice())
+    let ran = ask_answered(rt, alloc, most, &NONE)?;
+    Ok(ran.0.stores(0, WHOLE, &STATE) && ran.1.as_slice() == said.as_slice())
 }
 
 #[test]
@@ -106,8 +126,8 @@ static ENDED: [(&[u8], &str); 9] = [
 #[test]
 fn other_replies_end_the_play(rt: HostRuntime) -> Result<(), Fail> {
     for (replies, text) in &ENDED {
-        let (run, _) = ask(&rt, rt.alloc(), SCRIPT, replies, 3, &NONE)?;
-        if !run.stores(5, text, &STATE) {
+        let ran = ask(&rt, rt.alloc(), replies, 3, &NONE)?;
+        if !ran.0.stores(5, text, &STATE) {
             return Err(Fail::new(format_args!("{text}")));
         }
     }
@@ -141,13 +161,12 @@ fn is_front(lines: Option<&[u8]>) -> bool {
 
 /// The number of calls of the net: of the first that may fail and nothing is told of it.
 fn first_unfailing<R: Threads + Sync>(rt: &R, alloc: Global) -> Result<u64, AllocError> {
-    let replies = answers(alloc, FRAMES)?;
     for call in 0..100 {
         let net = [call];
         let failing = Failing { net: &net, ..NONE };
-        let (run, _) = ask(rt, alloc, SCRIPT, &replies, 4096, &failing)?;
-        if !is_faulted(&run, call) {
-            return Ok(if run.tells(0, WHOLE) { call } else { 100 });
+        let ran = ask_answered(rt, alloc, 4096, &failing)?;
+        if !is_faulted(&ran.0, call) {
+            return Ok(if ran.0.tells(0, WHOLE) { call } else { 100 });
         }
     }
     Ok(100)
@@ -171,17 +190,16 @@ fn is_told_of_files<R: Threads + Sync>(
     alloc: Global,
     call: u64,
 ) -> Result<bool, AllocError> {
-    let replies = answers(alloc, FRAMES)?;
     let files = [call];
     let failing = Failing {
         files: &files,
         ..NONE
     };
-    let (run, _) = ask(rt, alloc, SCRIPT, &replies, 4096, &failing)?;
+    let ran = ask_answered(rt, alloc, 4096, &failing)?;
     Ok(if call < STORE {
-        run.only_tells(8, "read fault\n")
+        ran.0.only_tells(8, "read fault\n")
     } else {
-        run.tells(9, WHOLE)
+        ran.0.tells(9, WHOLE)
     })
 }
 
@@ -198,42 +216,45 @@ fn each_call_of_the_files_fails_once(rt: HostRuntime) -> Result<(), Fail> {
 /// The lines before the write that fails.
 static BEFORE: [&str; 3] = ["", "1 welcome\n", "1 welcome\n1 done ()\n"];
 
+/// Whether these lines alone are told, and the state is stored all the same, where this write fails.
+fn is_told_before<R: Threads + Sync>(
+    rt: &R,
+    alloc: Global,
+    write: u64,
+    text: &str,
+) -> Result<bool, AllocError> {
+    let writes = [write];
+    let failing = Failing {
+        writes: &writes,
+        ..NONE
+    };
+    let ran = ask_answered(rt, alloc, 4096, &failing)?;
+    Ok(ran.0.stores(9, text, &STATE))
+}
+
 #[test]
 fn each_write_fails_once(rt: HostRuntime) -> Result<(), Fail> {
-    let alloc = rt.alloc();
-    let replies = answers(alloc, FRAMES)?;
     for (write, text) in BEFORE.iter().enumerate() {
-        let writes = [write as u64];
-        let failing = Failing {
-            writes: &writes,
-            ..NONE
-        };
-        let (run, _) = ask(&rt, alloc, SCRIPT, &replies, 4096, &failing)?;
-        if !run.stores(9, text, &STATE) {
+        if !is_told_before(&rt, rt.alloc(), write as u64, text)? {
             return Err(Fail::new(format_args!("{text}")));
         }
     }
     Ok(())
 }
 
+/// Asks a server at the state of `true` for a flip, to which it replies.
+fn ask_for_flip<R: Threads + Sync>(rt: &R, alloc: Global) -> Result<(Run, Vec<u8>), AllocError> {
+    let first = state(rt, alloc, "true")?;
+    let replies = answers(alloc, &[0, 0, 0, 0, 1, 1])?;
+    let stage = staged(SWITCH, &first, b"open 1 0\ncall 1 flip 1 ()\ngo\nclose 1");
+    ask_at(rt, alloc, &stage, &replies, 4096, &NONE)
+}
+
 /// An update's new state is stored.
 #[test]
 fn the_last_state_is_stored(rt: HostRuntime) -> Result<(), Fail> {
-    let alloc = rt.alloc();
-    let image = made(&rt, alloc, SWITCH, "make", "true")?.file;
-    let first = kept(&rt, alloc, SWITCH, &image)?.file;
-    let image = made(&rt, alloc, SWITCH, "make", "false")?.file;
-    let last = kept(&rt, alloc, SWITCH, &image)?.file;
-    let mut bytes = Vec::new(alloc);
-    bytes.push(answers(alloc, &[0, 0, 0, 0, 1, 1])?)?;
-    let peers = Peers {
-        bytes: &bytes,
-        most: 4096,
-        failing: &[],
-    };
-    let stage = staged(SWITCH, &first, b"open 1 0\ncall 1 flip 1 ()\ngo\nclose 1");
-    let words = ["ask", "p", "s", "4711", "q", "o"];
-    let (run, _) = run_on_net(&rt, alloc, &stage, &words, &peers, &[], (100, &[]))?;
+    let last = state(&rt, rt.alloc(), "false")?;
+    let (run, _) = ask_for_flip(&rt, rt.alloc())?;
     if run.status == 0 && run.stored == 1 && run.file.as_slice() == last.as_slice() {
         return Ok(());
     }
@@ -242,30 +263,46 @@ fn the_last_state_is_stored(rt: HostRuntime) -> Result<(), Fail> {
 
 /// Words, a state, a script, and the line by which one of them is refused.
 static REFUSED: [(&str, &[u8], &[u8], &str); 8] = [
-    ("0", b"x", b"x", "number PORT"),
-    ("65536", b"x", b"x", "number PORT"),
-    ("1", b"x", b"x", "state 0"),
-    ("1", &STATE, b"x", "script 1"),
-    ("1", &STATE, b"\nopen 1 0\nopen 0 0\n", "script 3"),
-    ("1", &STATE, b"open 1 1025", "script 1"),
-    ("1", &STATE, b"call 1 make 1 ()", "script 1"),
-    ("1", &STATE, b"call 1 open 1 1", "script 1"),
+    ("ask p s 0 q o", b"x", b"x", "input refused: number PORT\n"),
+    (
+        "ask p s 65536 q o",
+        b"x",
+        b"x",
+        "input refused: number PORT\n",
+    ),
+    ("ask p s 1 q o", b"x", b"x", "input refused: state 0\n"),
+    ("ask p s 1 q o", &STATE, b"x", "input refused: script 1\n"),
+    (
+        "ask p s 1 q o",
+        &STATE,
+        b"\nopen 1 0\nopen 0 0\n",
+        "input refused: script 3\n",
+    ),
+    (
+        "ask p s 1 q o",
+        &STATE,
+        b"open 1 1025",
+        "input refused: script 1\n",
+    ),
+    (
+        "ask p s 1 q o",
+        &STATE,
+        b"call 1 make 1 ()",
+        "input refused: script 1\n",
+    ),
+    (
+        "ask p s 1 q o",
+        &STATE,
+        b"call 1 open 1 1",
+        "input refused: script 1\n",
+    ),
 ];
 
 #[test]
 fn words_states_and_scripts_are_refused(rt: HostRuntime) -> Result<(), Fail> {
-    let alloc = rt.alloc();
-    for (port, state, script, text) in &REFUSED {
-        let peers = Peers {
-            bytes: &[],
-            most: 1,
-            failing: &[],
-        };
-        let words = ["ask", "p", "s", *port, "q", "o"];
+    for (words, state, script, text) in &REFUSED {
         let stage = staged(FIRST, state, script);
-        let (run, _) = run_on_net(&rt, alloc, &stage, &words, &peers, &[], (100, &[]))?;
-        let line = format!(in alloc; "input refused: {text}\n")?;
-        if !run.only_tells(7, &line) {
+        if !is_told_to(&rt, rt.alloc(), &stage, words, &[], 7, text)? {
             return Err(Fail::new(format_args!("{text}")));
         }
     }

@@ -2,6 +2,7 @@
 ghost use Rattle.std.specs.Prelude.{◌<◌};
 
 use crate::messages::fetches;
+use crate::telling::{is_only, is_told_to, link};
 use cli_stage::runs::{Peers, Run, run_on_net};
 use cli_stage::stage::{STATE, staged};
 use core_terms::Hash32;
@@ -26,10 +27,9 @@ pub fn draw<R: Threads + Sync>(
     requires { 0 < most }
 {
     let (program, piece, role, fuel) = call;
-    let mut bytes = Vec::new(alloc);
-    bytes.push(Vec::from_slice(alloc, answers)?)?;
+    let links = link(alloc, answers)?;
     let peers = Peers {
-        bytes: &bytes,
+        bytes: &links,
         most,
         failing,
     };
@@ -48,8 +48,10 @@ const OVER: Call<'static> = (SWITCH, b"\x01", "over", "1");
 
 const FLIP: Call<'static> = (SWITCH, b"\x01", "flip", "0");
 
-/// Calls, what comes on the link, how often the piece is asked for, and what is told.
-static ROWS: [(Call, &[u8], usize, u8, &str); 19] = [
+/// A call, what comes on the link, how often the piece is asked for, and what is told.
+type Row = (Call<'static>, &'static [u8], usize, u8, &'static str);
+
+static ROWS: [Row; 19] = [
     (OPEN, b"\0\0\0\x03\x86\0\0", 1, 0, "done ()\n"),
     (OPEN, b"\0\0\0\x03\x86\0\0\0\0\0", 1, 0, "done ()\n"),
     (
@@ -92,14 +94,26 @@ static ROWS: [(Call, &[u8], usize, u8, &str); 19] = [
 /// How many bytes move at once.
 pub static SIZES: [usize; 3] = [1, 3, 4096];
 
+/// Whether the answers of a row are told so, and the piece is asked for so often, where so many bytes move at once.
+fn is_told<R: Threads + Sync>(
+    rt: &R,
+    alloc: Global,
+    row: &Row,
+    most: usize,
+) -> Result<bool, AllocError>
+    requires { 0 < most }
+{
+    let (call, answers, count, status, line) = row;
+    let asked = fetches(alloc, [call.1; 2].get(..*count).unwrap_or(&[]))?;
+    let ran = draw(rt, alloc, *call, answers, most, &[])?;
+    Ok(is_only(&ran, *status, line, &asked))
+}
+
 #[test]
 fn each_answer_is_told(rt: HostRuntime) -> Result<(), Fail> {
-    let alloc = rt.alloc();
-    for (number, (call, answers, count, status, line)) in ROWS.iter().enumerate() {
-        let asked = fetches(alloc, [call.1; 2].get(..*count).unwrap_or(&[]))?;
+    for (number, row) in ROWS.iter().enumerate() {
         for most in &SIZES {
-            let (run, sent) = draw(&rt, alloc, *call, answers, (*most).max(1), &[])?;
-            if !run.only_tells(*status, line) || sent.as_slice() != asked.as_slice() {
+            if !is_told(&rt, rt.alloc(), row, (*most).max(1))? {
                 return Err(Fail::new(format_args!("row {number}, {most} at once")));
             }
         }
@@ -110,11 +124,11 @@ fn each_answer_is_told(rt: HostRuntime) -> Result<(), Fail> {
 /// The number of calls of the net: of the first that may fail and nothing is told of it.
 fn first_unfailing<R: Threads + Sync>(rt: &R, alloc: Global) -> Result<u64, AllocError> {
     for call in 0..100 {
-        let (run, sent) = draw(rt, alloc, OPEN, b"\0\0\0\x03\x86\0\0", 4096, &[call])?;
-        if run.only_tells(0, "done ()\n") {
+        let ran = draw(rt, alloc, OPEN, b"\0\0\0\x03\x86\0\0", 4096, &[call])?;
+        if ran.0.only_tells(0, "done ()\n") {
             return Ok(call);
         }
-        if !run.only_tells(8, "link fault\n") || (call == 0 && !sent.is_empty()) {
+        if !ran.0.only_tells(8, "link fault\n") || (call == 0 && !ran.1.is_empty()) {
             return Ok(100);
         }
     }
@@ -124,7 +138,9 @@ fn first_unfailing<R: Threads + Sync>(rt: &R, alloc: Global) -> Result<u64, Allo
 #[test]
 fn each_call_of_the_net_fails_once(rt: HostRuntime) -> Result<(), Fail> {
     let calls = first_unfailing(&rt, rt.alloc())?;
-    assert!(rt; (4..100).contains(&calls), "call {calls}");
+    if !(4..100).contains(&calls) {
+        return Err(Fail::new(format_args!("call {calls}")));
+    }
     Ok(())
 }
 
@@ -133,47 +149,44 @@ static REFUSED: [(&str, u8, &str); 16] = [
     (
         "draw q close none ( x 0",
         6,
-        "program refused: Expected 1 1",
+        "program refused: Expected 1 1\n",
     ),
-    ("draw p close none ( x 0", 7, "input refused: role unknown"),
-    ("draw p make none ( x 0", 7, "input refused: role kind"),
-    ("draw p open none ( x 0", 7, "input refused: number FUEL"),
-    ("draw p open none ( 1 0", 7, "input refused: number PORT"),
+    (
+        "draw p close none ( x 0",
+        7,
+        "input refused: role unknown\n",
+    ),
+    ("draw p make none ( x 0", 7, "input refused: role kind\n"),
+    ("draw p open none ( x 0", 7, "input refused: number FUEL\n"),
+    ("draw p open none ( 1 0", 7, "input refused: number PORT\n"),
     (
         "draw p open none ( 1 65536",
         7,
-        "input refused: number PORT",
+        "input refused: number PORT\n",
     ),
-    ("draw p open none ( 1 1", 8, "read fault"),
-    ("draw p open q ( 1 1", 7, "input refused: state 0"),
+    ("draw p open none ( 1 1", 8, "read fault\n"),
+    ("draw p open q ( 1 1", 7, "input refused: state 0\n"),
     (
         "draw p open s ( 1 1",
         7,
-        "input refused: argument Mismatch 1",
+        "input refused: argument Mismatch 1\n",
     ),
-    ("mirror none 0 0", 7, "input refused: number PORT"),
-    ("mirror none 65536 0", 7, "input refused: number PORT"),
-    ("mirror none 1 0", 7, "input refused: number CONNS"),
-    ("mirror none 1 1001", 7, "input refused: number CONNS"),
-    ("mirror none 1 1", 8, "read fault"),
-    ("mirror q 1 1", 7, "input refused: mirror cut 3"),
-    ("mirror s 1 1", 7, "input refused: mirror field 0"),
+    ("mirror none 0 0", 7, "input refused: number PORT\n"),
+    ("mirror none 65536 0", 7, "input refused: number PORT\n"),
+    ("mirror none 1 0", 7, "input refused: number CONNS\n"),
+    ("mirror none 1 1001", 7, "input refused: number CONNS\n"),
+    ("mirror none 1 1", 8, "read fault\n"),
+    ("mirror q 1 1", 7, "input refused: mirror cut 3\n"),
+    ("mirror s 1 1", 7, "input refused: mirror field 0\n"),
 ];
 
 #[test]
 fn the_first_refusal_is_told(rt: HostRuntime) -> Result<(), Fail> {
-    let alloc = rt.alloc();
+    let stage = staged(FIRST, &STATE, b"abc");
     for (words, status, text) in &REFUSED {
-        let peers = Peers {
-            bytes: &[],
-            most: 1,
-            failing: &[0],
-        };
-        let words: Vec<&str> = words.split(' ').collect(alloc)?;
-        let stage = staged(FIRST, &STATE, b"abc");
-        let (run, _) = run_on_net(&rt, alloc, &stage, &words, &peers, &[], (100, &[]))?;
-        let line = format!(in alloc; "{text}\n")?;
-        assert!(rt; run.only_tells(*status, &line), "{text}");
+        if !is_told_to(&rt, rt.alloc(), &stage, words, &[0], *status, text)? {
+            return Err(Fail::new(format_args!("{text}")));
+        }
     }
     Ok(())
 }

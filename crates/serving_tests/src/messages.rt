@@ -23,12 +23,18 @@ pub fn conversation(
     role: u8,
     rounds: u32,
 ) -> Result<Vec<u8>, AllocError> {
+    let greeting = greeting(alloc, program, state)?;
     let mut bytes = Vec::new(alloc);
-    let mut greeting = Vec::from_slice(alloc, &Sha::of(program).0)?;
-    greeting.extend_from_slice(&[0, 0])?;
-    greeting.extend_from_slice(state)?;
     add(&mut bytes, &[1, 0, 1], &greeting)?;
     call_and_leave(&mut bytes, role, rounds)?;
+    Ok(bytes)
+}
+
+/// What a greeting at a state of the program says behind its session.
+fn greeting(alloc: Global, program: &[u8], state: &[u8]) -> Result<Vec<u8>, AllocError> {
+    let mut bytes = Vec::from_slice(alloc, &Sha::of(program).0)?;
+    bytes.extend_from_slice(&[0, 0])?;
+    bytes.extend_from_slice(state)?;
     Ok(bytes)
 }
 
@@ -41,20 +47,27 @@ fn call_and_leave(bytes: &mut Vec<u8>, role: u8, rounds: u32) -> Result<(), Allo
 
 /// What two sessions say that race: both greet at a state of the program, call a role without an argument, and run in one round.
 pub fn race(alloc: Global, program: &[u8], state: &[u8], role: u8) -> Result<Vec<u8>, AllocError> {
+    let greeting = greeting(alloc, program, state)?;
     let mut bytes = Vec::new(alloc);
-    let mut greeting = Vec::from_slice(alloc, &Sha::of(program).0)?;
-    greeting.extend_from_slice(&[0, 0])?;
-    greeting.extend_from_slice(state)?;
-    for session in 1..3 {
-        add(&mut bytes, &[1, 0, session], &greeting)?;
-        add(
-            &mut bytes,
-            &[2, 0, session, 0, role, 0, 0, 0, 0, 0, 0, 0, 1],
-            &[],
-        )?;
-    }
+    greet_and_call(&mut bytes, 1, &greeting, role)?;
+    greet_and_call(&mut bytes, 2, &greeting, role)?;
     add(&mut bytes, &[3, 0, 0], &1u32.to_be_bytes())?;
     Ok(bytes)
+}
+
+/// A session's greeting, and its call with fuel 1.
+fn greet_and_call(
+    bytes: &mut Vec<u8>,
+    session: u8,
+    greeting: &[u8],
+    role: u8,
+) -> Result<(), AllocError> {
+    add(bytes, &[1, 0, session], greeting)?;
+    add(
+        bytes,
+        &[2, 0, session, 0, role, 0, 0, 0, 0, 0, 0, 0, 1],
+        &[],
+    )
 }
 
 /// What is answered to them: the first one's proof has these frames, and the other one is told the last state.

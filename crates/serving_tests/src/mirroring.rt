@@ -4,9 +4,10 @@ ghost use Rattle.std.specs.Prelude.{◌<◌};
 use crate::asking::{Failing, NONE};
 use crate::drawing::SIZES;
 use crate::messages::{fetches, given};
-use cli_stage::runs::{Peers, Run, run_on_net, run_waiting};
+use crate::telling::is_only;
+use crate::waiting::{Wait, run_turns};
+use cli_stage::runs::{Peers, Run, run_on_net};
 use cli_stage::stage::staged;
-use cli_stage::waiting::Turn;
 use std::alloc::{AllocError, Global};
 use std::test::Fail;
 use std::thread::Threads;
@@ -61,7 +62,25 @@ static ASKED: [Asked; 4] = [
     (&[OTHER, B], &[None, Some(B)]),
 ];
 
-/// Whether this is given on the first one of two links, and this on the other one, and nothing is told but the port.
+/// Whether these pieces are given on the last one of so many links, and nothing is told but the port.
+fn is_given<R: Threads + Sync>(
+    rt: &R,
+    alloc: Global,
+    links: &[Vec<u8>],
+    connections: &str,
+    pieces: &[Option<&[u8]>],
+) -> Result<bool, AllocError> {
+    let answers = given(alloc, pieces)?;
+    for most in &SIZES {
+        let ran = mirror(rt, alloc, links, connections, (*most).max(1), &NONE)?;
+        if !is_only(&ran, 0, WHOLE, &answers) {
+            return Ok(false);
+        }
+    }
+    Ok(true)
+}
+
+/// Whether this is given on the first one of two links, and this on the other one.
 fn are_given<R: Threads + Sync>(
     rt: &R,
     alloc: Global,
@@ -69,17 +88,7 @@ fn are_given<R: Threads + Sync>(
     first: &[Option<&[u8]>],
     other: &[Option<&[u8]>],
 ) -> Result<bool, AllocError> {
-    for (connections, answers) in [("1", first), ("2", other)] {
-        let answers = given(alloc, answers)?;
-        for most in &SIZES {
-            let most = (*most).max(1);
-            let (run, sent) = mirror(rt, alloc, links, connections, most, &NONE)?;
-            if !run.only_tells(0, WHOLE) || sent.as_slice() != answers.as_slice() {
-                return Ok(false);
-            }
-        }
-    }
-    Ok(true)
+    Ok(is_given(rt, alloc, links, "1", first)? && is_given(rt, alloc, links, "2", other)?)
 }
 
 /// Two links on which this comes.
@@ -90,31 +99,44 @@ fn links(alloc: Global, first: Vec<u8>, other: &[&[u8]]) -> Result<Vec<Vec<u8>>,
     Ok(links)
 }
 
+/// Whether what is asked for on two links is given.
+fn are_answered<R: Threads + Sync>(
+    rt: &R,
+    alloc: Global,
+    first: &Asked,
+    other: &Asked,
+) -> Result<bool, AllocError> {
+    let links = links(alloc, fetches(alloc, first.0)?, other.0)?;
+    are_given(rt, alloc, &links, first.1, other.1)
+}
+
 #[test]
 fn links_are_answered_one_after_another(rt: HostRuntime) -> Result<(), Fail> {
-    let alloc = rt.alloc();
-    for (number, (asked, first)) in ASKED.iter().enumerate() {
-        for (behind, other) in &ASKED {
-            let links = links(alloc, fetches(alloc, asked)?, behind)?;
-            assert!(rt;
-                are_given(&rt, alloc, &links, first, other)?,
-                "link {number}"
-            );
+    for (number, first) in ASKED.iter().enumerate() {
+        for other in &ASKED {
+            if !are_answered(&rt, rt.alloc(), first, other)? {
+                return Err(Fail::new(format_args!("link {number}")));
+            }
         }
     }
     Ok(())
+}
+
+/// Messages that ask for four pieces, where a byte is changed; without a change, they end in front of it.
+fn spoilt(alloc: Global, at: usize, change: u8) -> Result<Vec<u8>, AllocError> {
+    let mut asked = fetches(alloc, &[C, OTHER, A, A])?;
+    match asked.get_mut(at) {
+        Some(byte) if change > 0 => *byte ^= change,
+        _ => asked.truncate(at),
+    }
+    Ok(asked)
 }
 
 /// Whether nothing is given further on a link behind a message that asks but for a byte, and at an end inside of it; and the next link is
 /// answered.
 fn ends_there<R: Threads + Sync>(rt: &R, alloc: Global, at: usize) -> Result<bool, AllocError> {
     for change in [0, 1, 0x80] {
-        let mut first = fetches(alloc, &[C, OTHER, A, A])?;
-        match first.get_mut(at) {
-            Some(byte) if change > 0 => *byte ^= change,
-            _ => first.truncate(at),
-        }
-        let links = links(alloc, first, &[B])?;
+        let links = links(alloc, spoilt(alloc, at, change)?, &[B])?;
         if !are_given(rt, alloc, &links, &[Some(C), None], &[Some(B)])? {
             return Ok(false);
         }
@@ -126,26 +148,41 @@ fn ends_there<R: Threads + Sync>(rt: &R, alloc: Global, at: usize) -> Result<boo
 #[test]
 fn other_messages_and_ends_are_not_answered(rt: HostRuntime) -> Result<(), Fail> {
     for at in 78..85 {
-        assert!(rt; ends_there(&rt, rt.alloc(), at)?, "byte {at}");
+        if !ends_there(&rt, rt.alloc(), at)? {
+            return Err(Fail::new(format_args!("byte {at}")));
+        }
     }
     Ok(())
 }
 
-/// The number of calls of the net: of the first that may fail and nothing is told of it.
-fn first_unfailing<R: Threads + Sync>(rt: &R, alloc: Global) -> Result<u64, AllocError> {
-    let links = links(alloc, fetches(alloc, &[C])?, &[C])?;
-    let answers = given(alloc, &[Some(C)])?;
+/// Whether a mirror of which a call of the net failed ended as it has to: with the line of its port before that of the
+/// fault, but where it couldn't listen; and it sent some first ones of these bytes.
+fn is_faulted(ran: &(Run, Vec<u8>), call: u64, answers: &[u8]) -> bool {
+    let text = if call == 0 {
+        "link fault\n"
+    } else {
+        "listening 4711\nlink fault\n"
+    };
+    ran.0.only_tells(8, text) && answers.starts_with(&ran.1)
+}
+
+/// The number of calls of the net on these links: of the first that may fail and nothing is told of it.
+fn first_unfailing<R: Threads + Sync>(
+    rt: &R,
+    alloc: Global,
+    links: &[Vec<u8>],
+    answers: &[u8],
+) -> Result<u64, AllocError> {
     for call in 0..100 {
         let net = [call];
         let failing = Failing { net: &net, ..NONE };
-        let (run, sent) = mirror(rt, alloc, &links, "2", 4096, &failing)?;
-        if run.only_tells(0, WHOLE) {
-            return Ok(call);
-        }
-        let text = if call == 0 { "" } else { WHOLE };
-        let text = format!(in alloc; "{text}link fault\n")?;
-        if !run.only_tells(8, &text) || !answers.starts_with(&sent) {
-            return Ok(100);
+        let ran = mirror(rt, alloc, links, "2", 4096, &failing)?;
+        if !is_faulted(&ran, call, answers) {
+            return Ok(if ran.0.only_tells(0, WHOLE) {
+                call
+            } else {
+                100
+            });
         }
     }
     Ok(100)
@@ -153,51 +190,85 @@ fn first_unfailing<R: Threads + Sync>(rt: &R, alloc: Global) -> Result<u64, Allo
 
 #[test]
 fn each_call_of_the_net_fails_once(rt: HostRuntime) -> Result<(), Fail> {
-    let calls = first_unfailing(&rt, rt.alloc())?;
-    assert!(rt; (10..100).contains(&calls), "call {calls}");
+    let alloc = rt.alloc();
+    let links = links(alloc, fetches(alloc, &[C])?, &[C])?;
+    let answers = given(alloc, &[Some(C)])?;
+    let calls = first_unfailing(&rt, alloc, &links, &answers)?;
+    if !(10..100).contains(&calls) {
+        return Err(Fail::new(format_args!("call {calls}")));
+    }
     Ok(())
 }
 
-#[test]
-fn calls_of_the_files_and_the_output_fail(rt: HostRuntime) -> Result<(), Fail> {
-    let alloc = rt.alloc();
-    for call in 0..3 {
-        let files = [call];
-        let failing = Failing {
-            files: &files,
-            ..NONE
-        };
-        let (run, _) = mirror(&rt, alloc, &[], "2", 1, &failing)?;
-        assert!(rt; run.only_tells(8, "read fault\n"), "call {call}");
-    }
+/// Whether a file that can't be read is told, where this call of the files fails.
+fn is_told_of_files<R: Threads + Sync>(
+    rt: &R,
+    alloc: Global,
+    call: u64,
+) -> Result<bool, AllocError> {
+    let files = [call];
+    let failing = Failing {
+        files: &files,
+        ..NONE
+    };
+    let ran = mirror(rt, alloc, &[], "2", 1, &failing)?;
+    Ok(ran.0.only_tells(8, "read fault\n"))
+}
+
+/// Whether nothing is told or sent where the first write fails.
+fn is_silent<R: Threads + Sync>(rt: &R, alloc: Global) -> Result<bool, AllocError> {
     let failing = Failing {
         writes: &[0],
         ..NONE
     };
-    let (run, sent) = mirror(
-        &rt,
-        alloc,
-        &links(alloc, fetches(alloc, &[C])?, &[])?,
-        "2",
-        1,
-        &failing,
-    )?;
-    assert!(rt; run.only_tells(9, "") && sent.is_empty());
+    let links = links(alloc, fetches(alloc, &[C])?, &[])?;
+    let ran = mirror(rt, alloc, &links, "2", 1, &failing)?;
+    Ok(is_only(&ran, 9, "", b""))
+}
+
+#[test]
+fn calls_of_the_files_and_the_output_fail(rt: HostRuntime) -> Result<(), Fail> {
+    for call in 0..3 {
+        if !is_told_of_files(&rt, rt.alloc(), call)? {
+            return Err(Fail::new(format_args!("call {call}")));
+        }
+    }
+    if !is_silent(&rt, rt.alloc())? {
+        return Err(Fail::new("the first write"));
+    }
     Ok(())
 }
 
-/// Each message comes only behind the whole answer to the one before.
+/// A client that asks for two pieces: each message comes only behind the whole answer to the one before.
+static WAITS: [Wait; 3] = [
+    Wait {
+        behind: 0,
+        until: 39,
+    },
+    Wait {
+        behind: 9,
+        until: 78,
+    },
+    Wait {
+        behind: 16,
+        until: 78,
+    },
+];
+
+/// Answers such a client.
+fn mirror_waiting<R: Threads + Sync>(rt: &R, alloc: Global) -> Result<(Run, Vec<u8>), AllocError> {
+    let asked = fetches(alloc, &[C, A])?;
+    let stage = staged(b"", b"", FILE);
+    let words = ["mirror", "q", "4711", "1"];
+    run_turns(rt, alloc, &stage, &words, &asked, &WAITS, None)
+}
+
 #[test]
 fn each_message_is_answered_before_the_next_is_read(rt: HostRuntime) -> Result<(), Fail> {
-    let alloc = rt.alloc();
-    let (asked, answers) = (fetches(alloc, &[C, A])?, given(alloc, &[Some(C), Some(A)])?);
-    let mut turns = Vec::new(alloc);
-    for (after, from, until) in [(0, 0, 39), (9, 39, 78), (16, 78, 78)] {
-        let bytes = asked.get(from..until).unwrap_or(&[]);
-        turns.push(Turn { after, bytes })?;
+    let answers = given(rt.alloc(), &[Some(C), Some(A)])?;
+    let ran = mirror_waiting(&rt, rt.alloc())?;
+    if !is_only(&ran, 0, WHOLE, &answers) {
+        return Err(Fail::new("what is told or sent"));
     }
-    let words = ["mirror", "q", "4711", "1"];
-    let (run, sent) = run_waiting(&rt, alloc, &staged(b"", b"", FILE), &words, &turns)?;
-    assert!(rt; run.only_tells(0, WHOLE) && sent.as_slice() == answers.as_slice());
     Ok(())
 }

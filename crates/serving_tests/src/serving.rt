@@ -1,44 +1,21 @@
 // What `serve` tells, stores and sends.
 ghost use Rattle.std.specs.Prelude.{◌<◌};
 
-use crate::messages::{answers, conversation};
-use cli_stage::runs::{Peers, Run, Writes, kept, made, run_on_net};
+use crate::messages::answers;
+use crate::states::{BOTH, FLIP, called, image};
+use crate::telling::is_told_to;
+use cli_stage::runs::{Peers, Run, Writes, run_on_net};
 use cli_stage::stage::staged;
 use program_texts::SWITCH;
 use std::alloc::{AllocError, Global};
 use std::test::Fail;
 use std::thread::Threads;
 
-/// The roles of the program, by their numbers.
-const BOTH: u8 = 1;
-
-const FLIP: u8 = 2;
-
-/// The image of a state, and the spelling of its projection.
-#[derive(Drop)]
-struct Version {
-    image: Vec<u8>,
-    state: Vec<u8>,
-}
-
-/// The state that is made of a literal.
-fn state_made<R: Threads + Sync>(
-    rt: &R,
-    alloc: Global,
-    literal: &str,
-) -> Result<Version, AllocError> {
-    let image = made(rt, alloc, SWITCH, "make", literal)?.file;
-    let state = kept(rt, alloc, SWITCH, &image)?.file;
-    Ok(Version { image, state })
-}
-
 /// What comes on the two links of a serving from `true` on: on the first the state is flipped, and on the second the new one is looked at.
 fn peers<R: Threads + Sync>(rt: &R, alloc: Global) -> Result<Vec<Vec<u8>>, AllocError> {
-    let first = state_made(rt, alloc, "true")?;
-    let second = state_made(rt, alloc, "false")?;
     let mut all = Vec::new(alloc);
-    all.push(conversation(alloc, SWITCH, &first.state, FLIP, 1)?)?;
-    all.push(conversation(alloc, SWITCH, &second.state, BOTH, 1)?)?;
+    all.push(called(rt, alloc, "true", FLIP)?)?;
+    all.push(called(rt, alloc, "false", BOTH)?)?;
     Ok(all)
 }
 
@@ -73,7 +50,7 @@ fn serve_peers<R: Threads + Sync>(
     requires moved { 0 < peers.now.most }
     requires written { 0 < writes.0 }
 {
-    let image = made(rt, alloc, SWITCH, "make", "true")?.file;
+    let image = image(rt, alloc, "true")?;
     let stage = staged(SWITCH, b"", &image);
     let words = ["serve", "p", "q", "4711", "2", "1", "o"];
     run_on_net(rt, alloc, &stage, &words, peers, files, writes)
@@ -89,10 +66,10 @@ static SIZES: [usize; 5] = [1, 2, 3, 7, 4096];
 fn is_whole<R: Threads + Sync>(rt: &R, alloc: Global, most: usize) -> Result<bool, AllocError>
     requires { 0 < most }
 {
-    let last = state_made(rt, alloc, "false")?;
+    let last = image(rt, alloc, "false")?;
     let proof = answers(alloc, &[0, 0, 0, 0, 1, 0, 0, 0, 0, 0, 1, 0])?;
-    let (run, sent) = serve(rt, alloc, most, &[], &[], &[])?;
-    Ok(run.stores(0, WHOLE, &last.image) && sent.as_slice() == proof.as_slice())
+    let ran = serve(rt, alloc, most, &[], &[], &[])?;
+    Ok(ran.0.stores(0, WHOLE, &last) && ran.1.as_slice() == proof.as_slice())
 }
 
 #[test]
@@ -120,9 +97,9 @@ fn is_faulted(run: &Run, call: u64) -> bool {
 /// The number of calls of the net: of the first that may fail and nothing is told of it.
 fn first_unfailing<R: Threads + Sync>(rt: &R, alloc: Global) -> Result<u64, AllocError> {
     for call in 0..100 {
-        let (run, _) = serve(rt, alloc, 4096, &[call], &[], &[])?;
-        if !is_faulted(&run, call) {
-            return Ok(if run.tells(0, WHOLE) { call } else { 100 });
+        let ran = serve(rt, alloc, 4096, &[call], &[], &[])?;
+        if !is_faulted(&ran.0, call) {
+            return Ok(if ran.0.tells(0, WHOLE) { call } else { 100 });
         }
     }
     Ok(100)
@@ -146,11 +123,11 @@ fn is_told_of_files<R: Threads + Sync>(
     alloc: Global,
     call: u64,
 ) -> Result<bool, AllocError> {
-    let (run, _) = serve(rt, alloc, 4096, &[], &[call], &[])?;
+    let ran = serve(rt, alloc, 4096, &[], &[call], &[])?;
     Ok(if call < STORE {
-        run.only_tells(8, "read fault\n")
+        ran.0.only_tells(8, "read fault\n")
     } else {
-        run.tells(9, WHOLE)
+        ran.0.tells(9, WHOLE)
     })
 }
 
@@ -171,8 +148,8 @@ fn is_told_before<R: Threads + Sync>(
     write: u64,
     text: &str,
 ) -> Result<bool, AllocError> {
-    let (run, _) = serve(rt, alloc, 4096, &[], &[], &[write])?;
-    Ok(run.tells(9, text) && run.stored == 1)
+    let ran = serve(rt, alloc, 4096, &[], &[], &[write])?;
+    Ok(ran.0.tells(9, text) && ran.0.stored == 1)
 }
 
 #[test]
@@ -190,8 +167,10 @@ fn each_write_fails_once(rt: HostRuntime) -> Result<(), Fail> {
 /// Where the port can't be told, nobody is answered.
 #[test]
 fn the_port_is_told_before_a_client_is_answered(rt: HostRuntime) -> Result<(), Fail> {
-    let (run, sent) = serve(&rt, rt.alloc(), 4096, &[], &[], &[0])?;
-    assert!(rt; run.tells(9, "") && sent.is_empty());
+    let ran = serve(&rt, rt.alloc(), 4096, &[], &[], &[0])?;
+    if !ran.0.tells(9, "") || !ran.1.is_empty() {
+        return Err(Fail::new("what is told or sent"));
+    }
     Ok(())
 }
 
@@ -207,30 +186,11 @@ static REFUSED: [(&str, &str); 8] = [
     ("serve p s 1 1 1 o", "input refused: image magic\n"),
 ];
 
-/// What is told to words over a net on which nothing comes.
-fn told<R: Threads + Sync>(rt: &R, alloc: Global, words: &str) -> Result<Run, AllocError> {
-    let words: Vec<&str> = words.split(' ').collect(alloc)?;
-    let peers = Peers {
-        bytes: &[],
-        most: 1,
-        failing: &[],
-    };
-    let (run, _) = run_on_net(
-        rt,
-        alloc,
-        &staged(SWITCH, b"", b""),
-        &words,
-        &peers,
-        &[],
-        (100, &[]),
-    )?;
-    Ok(run)
-}
-
 #[test]
 fn numbers_and_images_are_refused(rt: HostRuntime) -> Result<(), Fail> {
+    let stage = staged(SWITCH, b"", b"");
     for (words, line) in &REFUSED {
-        if !told(&rt, rt.alloc(), words)?.only_tells(7, line) {
+        if !is_told_to(&rt, rt.alloc(), &stage, words, &[], 7, line)? {
             return Err(Fail::new(format_args!("{words}")));
         }
     }

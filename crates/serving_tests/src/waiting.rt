@@ -1,7 +1,9 @@
 // Peers that wait: each says the next thing only once it has all that it waits for.
+ghost use Rattle.std.specs.Prelude.{◌<◌};
+
 use crate::messages::{answers, conversation};
 use cli_stage::runs::{Run, made, run_waiting};
-use cli_stage::stage::{STATE, staged};
+use cli_stage::stage::{STATE, Stage, staged};
 use cli_stage::waiting::Turn;
 use program_texts::FIRST;
 use std::alloc::{AllocError, Global};
@@ -10,9 +12,9 @@ use std::thread::Threads;
 
 /// How many bytes in all a peer waits for, and up to where it says then what it says.
 #[derive(Clone, Copy)]
-struct Wait {
-    behind: usize,
-    until: usize,
+pub struct Wait {
+    pub behind: usize,
+    pub until: usize,
 }
 
 /// A client: HELLO, CALL and GO behind WELCOME, BYE behind DONE, and the end behind CLOSED.
@@ -91,6 +93,22 @@ fn turns<'a>(
     Ok(turns)
 }
 
+/// Runs words over a net with a peer that says these bytes in such turns.
+pub fn run_turns<R: Threads + Sync>(
+    rt: &R,
+    alloc: Global,
+    stage: &Stage,
+    words: &[&str],
+    said: &[u8],
+    waits: &[Wait],
+    endless: Option<usize>,
+) -> Result<(Run, Vec<u8>), AllocError>
+    requires { 0 < stage.now.most_read }
+{
+    let turns = turns(alloc, said, waits, endless)?;
+    run_waiting(rt, alloc, stage, words, &turns)
+}
+
 /// Serves such a client.
 fn serve<R: Threads + Sync>(
     rt: &R,
@@ -99,9 +117,9 @@ fn serve<R: Threads + Sync>(
     endless: Option<usize>,
 ) -> Result<(Run, Vec<u8>), AllocError> {
     let image = made(rt, alloc, FIRST, "make", "()")?.file;
-    let turns = turns(alloc, &talk.said, &CLIENT, endless)?;
+    let stage = staged(FIRST, b"", &image);
     let words = ["serve", "p", "q", "4711", "1", "1", "o"];
-    run_waiting(rt, alloc, &staged(FIRST, b"", &image), &words, &turns)
+    run_turns(rt, alloc, &stage, &words, &talk.said, &CLIENT, endless)
 }
 
 /// Asks such a server.
@@ -112,18 +130,22 @@ fn ask<R: Threads + Sync>(
     endless: Option<usize>,
 ) -> Result<(Run, Vec<u8>), AllocError> {
     let script = b"open 1 0\ncall 1 open 1 ()\ngo\nclose 1\n";
-    let turns = turns(alloc, &talk.replied, &SERVER, endless)?;
+    let stage = staged(FIRST, &STATE, script);
     let words = ["ask", "p", "s", "4711", "q", "o"];
-    run_waiting(rt, alloc, &staged(FIRST, &STATE, script), &words, &turns)
+    run_turns(rt, alloc, &stage, &words, &talk.replied, &SERVER, endless)
 }
 
 #[test]
 fn each_message_is_answered_before_the_next_is_read(rt: HostRuntime) -> Result<(), Fail> {
     let alloc = rt.alloc();
     let talk = Talk::new(alloc)?;
-    let (run, sent) = serve(&rt, alloc, &talk, None)?;
-    assert!(rt; run.tells(0, "listening 4711\nversions 1 commits 0\n"));
-    assert!(rt; sent.as_slice() == talk.replied.as_slice());
+    let ran = serve(&rt, alloc, &talk, None)?;
+    if !ran.0.tells(0, "listening 4711\nversions 1 commits 0\n") {
+        return Err(Fail::new("what is told"));
+    }
+    if ran.1.as_slice() != talk.replied.as_slice() {
+        return Err(Fail::new("what is sent"));
+    }
     Ok(())
 }
 
@@ -131,29 +153,44 @@ fn each_message_is_answered_before_the_next_is_read(rt: HostRuntime) -> Result<(
 fn each_request_is_sent_whole_before_a_reply_is_read(rt: HostRuntime) -> Result<(), Fail> {
     let alloc = rt.alloc();
     let talk = Talk::new(alloc)?;
-    let (run, sent) = ask(&rt, alloc, &talk, None)?;
-    assert!(rt; run.tells(0, "1 welcome\n1 done ()\n1 closed\n"));
-    assert!(rt; sent.as_slice() == talk.said.as_slice());
+    let ran = ask(&rt, alloc, &talk, None)?;
+    if !ran.0.tells(0, "1 welcome\n1 done ()\n1 closed\n") {
+        return Err(Fail::new("what is told"));
+    }
+    if ran.1.as_slice() != talk.said.as_slice() {
+        return Err(Fail::new("what is sent"));
+    }
+    Ok(())
+}
+
+/// Whether a read that would wait for ever ended a run.
+fn is_seen(run: &Run) -> bool {
+    run.status == 8 && run.text.ends_with(b"link fault\n")
+}
+
+/// Fails where it is not seen in one of the turns of a client.
+fn check_client<R: Threads + Sync>(rt: &R, alloc: Global, talk: &Talk) -> Result<(), Fail> {
+    for number in 0..CLIENT.len() {
+        if !is_seen(&serve(rt, alloc, talk, Some(number))?.0) {
+            return Err(Fail::new(format_args!("turn {number} of a client")));
+        }
+    }
+    Ok(())
+}
+
+/// Fails where it is not seen in one of the turns of a server.
+fn check_server<R: Threads + Sync>(rt: &R, alloc: Global, talk: &Talk) -> Result<(), Fail> {
+    for number in 0..SERVER.len() {
+        if !is_seen(&ask(rt, alloc, talk, Some(number))?.0) {
+            return Err(Fail::new(format_args!("turn {number} of a server")));
+        }
+    }
     Ok(())
 }
 
 #[test]
 fn a_read_that_would_wait_for_ever_is_seen(rt: HostRuntime) -> Result<(), Fail> {
-    let alloc = rt.alloc();
-    let talk = Talk::new(alloc)?;
-    for number in 0..CLIENT.len() {
-        let (run, _) = serve(&rt, alloc, &talk, Some(number))?;
-        assert!(rt;
-            run.status == 8 && run.text.ends_with(b"link fault\n"),
-            "turn {number} of a client"
-        );
-    }
-    for number in 0..SERVER.len() {
-        let (run, _) = ask(&rt, alloc, &talk, Some(number))?;
-        assert!(rt;
-            run.status == 8 && run.text.ends_with(b"link fault\n"),
-            "turn {number} of a server"
-        );
-    }
-    Ok(())
+    let talk = Talk::new(rt.alloc())?;
+    check_client(&rt, rt.alloc(), &talk)?;
+    check_server(&rt, rt.alloc(), &talk)
 }

@@ -1,5 +1,6 @@
 // Calls that run in turns.
-ghost use Rattle.std.specs.Prelude.{◌≡◌, ◌<◌, ◌≤◌, ◌^◌, ℕ, List, length, None, Ok, IfOk};
+ghost use Rattle.std.specs.Prelude.{◌≡◌, ◌<◌, ◌≤◌, ℕ, List, length, None, Ok, IfOk};
+ghost use Rattle.core_terms.specs.Limits.{most_fuel};
 ghost use Rattle.core_terms.specs.Values.{Value, Values};
 ghost use Rattle.ideal_meaning.specs.Headline.{call_values};
 ghost use Rattle.mode_vm.specs.Meanings.{program_of};
@@ -44,7 +45,7 @@ impl<H: Hash32> Running<H> {
     ) -> Result<Running<H>, AllocError>
         requires there { granted.function.0 < length (program_of code.now).functions }
         requires role { TakesState (program_of code.now) granted.function.0 }
-        requires fuel_fits { fuel ≤ 10 ^ 12 }
+        requires fuel_fits { fuel ≤ most_fuel }
         ensures starts { let P = program_of code.now in IfOk result (λ run. (base : List Node) (role : ℕ) (s a : Value) → HoldsCall H.hash P base granted role a
             → IsVersion H.hash P base version s → IsRunning H.hash code.now base run (role_in P role).function (call_values s a) fuel 0) }
         ensures goes_on { IfOk result (λ run. run.last ≡ Ok None) }

@@ -236,16 +236,31 @@ fn misjudged(
     Ok(None)
 }
 
+/// The number of the first row of `PAIR` that is told otherwise, by so many bytes a read.
+fn misjudged_pair(alloc: Global, most: usize) -> Result<Option<usize>, AllocError>
+    requires { 0 < most }
+{
+    let mut both = Vec::from_slice(alloc, &HT)?;
+    both.extend_from_slice(&HF)?;
+    misjudged(alloc, PAIR, &both, &PAIRS, most)
+}
+
+/// For each of the programs, the number of the first row that is told otherwise, by so many bytes a read.
+fn all_misjudged(alloc: Global, most: usize) -> Result<[Option<usize>; 3], AllocError>
+    requires { 0 < most }
+{
+    let unit = misjudged(alloc, UNIT, &H0, &UNITS, most)?;
+    let bool = misjudged(alloc, BOOL, &HT, &BOOLS, most)?;
+    let pair = misjudged_pair(alloc, most)?;
+    Ok([unit, bool, pair])
+}
+
 #[test]
 fn each_row_is_judged(rt: HostRuntime) -> Result<(), Fail> {
-    let mut both = Vec::from_slice(rt.alloc(), &HT)?;
-    both.extend_from_slice(&HF)?;
     for most in [1, 2, 3, 7] {
-        let unit = misjudged(rt.alloc(), UNIT, &H0, &UNITS, most)?;
-        let bool = misjudged(rt.alloc(), BOOL, &HT, &BOOLS, most)?;
-        let pair = misjudged(rt.alloc(), PAIR, &both, &PAIRS, most)?;
-        if (unit, bool, pair) != (None, None, None) {
-            return Err(Fail::new(format_args!("{unit:?} {bool:?} {pair:?} by {most}")));
+        let rows = all_misjudged(rt.alloc(), most)?;
+        if rows != [None; 3] {
+            return Err(Fail::new(format_args!("{rows:?} by {most}")));
         }
     }
     Ok(())
@@ -281,12 +296,12 @@ fn opened_many(
 
 #[test]
 fn the_oldest_of_1024_is_kept(rt: HostRuntime) -> Result<(), Fail> {
-    let oldest = opened_many(rt.alloc(), 1026, 1025, 1023)?;
-    let beyond = opened_many(rt.alloc(), 1026, 1025, 1024)?;
-    if !Told::Done(b"\0\0\0\0\0\0\0\0").is(&oldest) {
+    let oldest = Told::Done(b"\0\0\0\0\0\0\0\0");
+    if !oldest.is(&opened_many(rt.alloc(), 1026, 1025, 1023)?) {
         return Err(Fail::new("the oldest"));
     }
-    if !Told::Rejected(Cause::BadUse(1025, 1024, 1024)).is(&beyond) {
+    let beyond = Told::Rejected(Cause::BadUse(1025, 1024, 1024));
+    if !beyond.is(&opened_many(rt.alloc(), 1026, 1025, 1024)?) {
         return Err(Fail::new("beyond"));
     }
     Ok(())
@@ -341,16 +356,16 @@ fn endless(
 
 #[test]
 fn sources_without_an_end_are_answered(rt: HostRuntime) -> Result<(), Fail> {
-    let zeros = endless(rt.alloc(), b"\0", true)?;
-    let empty = endless(rt.alloc(), b"\0\0\0\0\0", false)?;
-    let bytes = endless(rt.alloc(), b"\0\0\0\0\x01\0", false)?;
-    if !Told::Rejected(Cause::Header).is(&zeros) {
+    let zeros = Told::Rejected(Cause::Header);
+    if !zeros.is(&endless(rt.alloc(), b"\0", true)?) {
         return Err(Fail::new("zeros"));
     }
-    if !Told::Rejected(Cause::Leftover(65_536)).is(&empty) {
+    let empty = Told::Rejected(Cause::Leftover(65_536));
+    if !empty.is(&endless(rt.alloc(), b"\0\0\0\0\0", false)?) {
         return Err(Fail::new("empty pieces"));
     }
-    if !Told::Rejected(Cause::WrongPiece(0, Digest(H0), Digest(HF))).is(&bytes) {
+    let bytes = Told::Rejected(Cause::WrongPiece(0, Digest(H0), Digest(HF)));
+    if !bytes.is(&endless(rt.alloc(), b"\0\0\0\0\x01\0", false)?) {
         return Err(Fail::new("pieces of a byte"));
     }
     Ok(())
@@ -372,15 +387,17 @@ fn unproved(
 
 #[test]
 fn the_state_and_the_argument_come_first(rt: HostRuntime) -> Result<(), Fail> {
-    let short = unproved(rt.alloc(), &[0; 31], b"\0")?;
-    let long = unproved(rt.alloc(), &[0; 33], b"\0")?;
-    let argument = unproved(rt.alloc(), &H0, b"\0")?;
-    let proof = unproved(rt.alloc(), &H0, b"")?;
-    if !Told::BadState(0).is(&short) || !Told::BadState(32).is(&long) {
-        return Err(Fail::new("the state"));
+    if !Told::BadState(0).is(&unproved(rt.alloc(), &[0; 31], b"\0")?) {
+        return Err(Fail::new("a short state"));
     }
-    if !Told::BadArgument(0).is(&argument) || !Told::Rejected(Cause::Header).is(&proof) {
+    if !Told::BadState(32).is(&unproved(rt.alloc(), &[0; 33], b"\0")?) {
+        return Err(Fail::new("a long state"));
+    }
+    if !Told::BadArgument(0).is(&unproved(rt.alloc(), &H0, b"\0")?) {
         return Err(Fail::new("the argument"));
+    }
+    if !Told::Rejected(Cause::Header).is(&unproved(rt.alloc(), &H0, b"")?) {
+        return Err(Fail::new("the proof"));
     }
     Ok(())
 }

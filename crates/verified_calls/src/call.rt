@@ -1,7 +1,8 @@
 // A call whose proof file was verified.
-ghost use Rattle.std.specs.Prelude.{◌≡◌, ◌<◌, ◌≤◌, ◌^◌, Err, IfErr, IfOk, length};
+ghost use Rattle.std.specs.Prelude.{◌≡◌, ◌<◌, ◌≤◌, Err, IfErr, IfOk, length};
 ghost use Rattle.core_terms.specs.declared.byte_string.ByteString.{ByteString as Spelling};
 ghost use Rattle.core_terms.specs.declared.outcome.Outcome.{Outcome};
+ghost use Rattle.core_terms.specs.Limits.{most_fuel};
 ghost use Rattle.core_terms.specs.Roles.{argument_type};
 ghost use Rattle.ideal_meaning.specs.Checked as checked;
 ghost use Rattle.mode_vm.specs.Meanings.{program_of};
@@ -61,7 +62,7 @@ pub fn verify_call<H: Hash32>(
 ) -> Result<VerifiedCall, Verdict>
     requires there { role.0 < length (program_of code.now).functions }
     requires role { TakesState (program_of code.now) role.0 }
-    requires fuel_fits { fuel ≤ 10 ^ 12 }
+    requires fuel_fits { fuel ≤ most_fuel }
     ensures call { IfOk result (IsCallOf role state argument fuel file.items) }
     ensures accepted { IfOk result (IsVerified H.hash (program_of code.now)) }
     ensures cause { IfErr result (λ refusal. VerdictCause {T = Outcome Spelling} 0 0 (Err refusal)) }
@@ -89,7 +90,7 @@ pub fn verify_call_reusing<H: Hash32>(
 ) -> Result<VerifiedCall, Verdict>
     requires there { role.0 < length (program_of code.now).functions }
     requires role { TakesState (program_of code.now) role.0 }
-    requires fuel_fits { fuel ≤ 10 ^ 12 }
+    requires fuel_fits { fuel ≤ most_fuel }
     ensures call { IfOk result (IsCallOf role state argument fuel file.items) }
     ensures accepted { IfOk result (IsVerified H.hash (program_of code.now)) }
     ensures cause { IfErr result (λ refusal. VerdictCause {T = Outcome Spelling} 0 0 (Err refusal)) }
@@ -131,7 +132,7 @@ fn judge<H: Hash32>(
 ) -> Result<Outcome<Spelling>, Verdict>
     requires there { role.0 < length (program_of code.now).functions }
     requires role { TakesState (program_of code.now) role.0 }
-    requires fuel_fits { fuel ≤ 10 ^ 12 }
+    requires fuel_fits { fuel ≤ most_fuel }
     ensures verdict { let P = program_of code.now in AnswersVerdict P role.0 (checked.verdict H.hash P (argument_type P role.0) role.0 state.now argument.now fuel file.now) result }
     ensures cause { VerdictCause 0 0 result }
 {

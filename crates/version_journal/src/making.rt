@@ -1,6 +1,7 @@
 // Making a journal.
 ghost use Rattle.std.specs.Prelude.{◌≡◌, ◌<◌, ◌≤◌, ◌^◌, ◌++◌, [], ◌∷◌, false, length, IfErr, IfOk};
 ghost use Rattle.code_gen.specs.Programs.{program_in};
+ghost use Rattle.core_terms.specs.Limits.{most_file_bytes};
 ghost use Rattle.version_journal.specs.AtGates.{IsAt, Makes, MayNotMake};
 ghost use Rattle.version_journal.specs.Gates.{ForTold};
 ghost use Rattle.version_journal.specs.JournalCauses.{JournalCause};
@@ -28,7 +29,7 @@ pub fn make<D: Disk>(
     code: &Code,
     image: &[u8],
 ) -> Result<Journal, JournalFault>
-    requires fits { length image.now ≤ 67108864 }
+    requires fits { length image.now ≤ most_file_bytes }
     ensures makes { ForTold (D.moments disk.old) (D.moments disk.new) (λ old new. Makes (program_in code.now).text_digest.0 image.now old new result) }
     ensures at { IfOk result (λ journal. IsAt (program_in code.now).text_digest.0 image.now [] journal) }
     ensures whole { IfOk result (λ journal. journal.failed ≡ false) }
@@ -45,7 +46,7 @@ fn make_of<D: Disk>(
     digest: &Digest,
     image: &[u8],
 ) -> Result<Journal, JournalFault>
-    requires fits { length image.now ≤ 67108864 }
+    requires fits { length image.now ≤ most_file_bytes }
     ensures makes { ForTold (D.moments disk.old) (D.moments disk.new) (λ old new. Makes digest.now.0 image.now old new result) }
     ensures at { IfOk result (λ journal. IsAt digest.now.0 image.now [] journal) }
     ensures whole { IfOk result (λ journal. journal.failed ≡ false) }
@@ -69,7 +70,7 @@ fn make_of<D: Disk>(
 
 /// The bytes of a journal of this image without commits.
 fn first_bytes(alloc: Global, digest: &Digest, image: &[u8]) -> Result<Vec<u8>, AllocError>
-    requires fits { length image.now ≤ 67108864 }
+    requires fits { length image.now ≤ most_file_bytes }
     ensures bytes { IfOk result (λ bytes. bytes.items ≡ journal_head digest.now.0 image.now ++ 0 ∷ []) }
     ensures fits { IfOk result (λ bytes. (0 < length bytes.items) × (length bytes.items ≤ 2 ^ 32)) }
 {

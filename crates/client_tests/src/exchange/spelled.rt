@@ -6,14 +6,22 @@ use value_store::{Held, Nodes, Ref, Store, View};
 /// The spelling of a version.
 pub fn spelling_of(alloc: Global, store: &Store, version: Ref) -> Result<Vec<u8>, AllocError> {
     let mut bytes = Vec::new(alloc);
+    put_version(&mut bytes, store, version)?;
+    Ok(bytes)
+}
+
+fn put_version(bytes: &mut Vec<u8>, store: &Store, version: Ref) -> Result<(), AllocError> {
     match view(store, version)? {
         View::Pair(first, second) => {
-            put_part(&mut bytes, view(store, first)?)?;
-            put_part(&mut bytes, view(store, second)?)?;
+            put_node(bytes, store, first)?;
+            put_node(bytes, store, second)
         }
-        part => put_part(&mut bytes, part)?,
+        part => put_part(bytes, part),
     }
-    Ok(bytes)
+}
+
+fn put_node(bytes: &mut Vec<u8>, store: &Store, node: Ref) -> Result<(), AllocError> {
+    put_part(bytes, view(store, node)?)
 }
 
 /// What a node shows that is in the store.

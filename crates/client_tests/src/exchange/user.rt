@@ -54,7 +54,7 @@ pub struct User {
     /// The spellings of the versions.
     versions: Vec<Vec<u8>>,
     /// The version of each session, by its number.
-    seats: Vec<usize>,
+    seats: [usize; SESSIONS],
     /// Replies that came, and are not yet taken.
     coming: Vec<u8>,
     /// How many updates with a value were told, each of which made a version; and how many outcomes.
@@ -63,18 +63,18 @@ pub struct User {
 }
 
 impl User {
-    pub fn new(alloc: Global, code: Code, seed: u64, kept: u16) -> Result<User, AllocError> {
-        Ok(User {
+    pub fn new(alloc: Global, code: Code, seed: u64, kept: u16) -> User {
+        User {
             alloc,
             client: AskCore::new(alloc, code),
             numbers: Gen::new(seed),
             kept: kept.min(1024),
             versions: Vec::new(alloc),
-            seats: Vec::from_elem(alloc, 0, SESSIONS)?,
+            seats: [0; SESSIONS],
             coming: Vec::new(alloc),
             commits: 0,
             outcomes: 0,
-        })
+        }
     }
 
     /// A number below some other, which isn't 0.

@@ -8,6 +8,7 @@ use core_terms::{MOST_FUEL, Outcome, Spelling, Trap};
 use digest_layer::Sha;
 use lam_outside::MemLink;
 use std::alloc::{AllocError, Global};
+use std::mem;
 use wire_form::{ReadStop, Reply, Request, read_reply, read_request};
 
 /// What a client was told of the calls of each session, and what it sent.
@@ -23,6 +24,16 @@ pub struct Told {
 }
 
 impl Told {
+    /// Nothing yet, of sessions with these outcomes.
+    fn new(alloc: Global, outcomes: Vec<Vec<u8>>) -> Told {
+        Told {
+            outcomes,
+            count: 0,
+            sent: Vec::new(alloc),
+            whole: false,
+        }
+    }
+
     /// Whether this is what is told of each session at first in the other one.
     pub fn begins(&self, other: &Told) -> bool {
         self.outcomes
@@ -42,6 +53,15 @@ enum Awaited {
     All,
 }
 
+/// What is waited for behind a request.
+fn awaited_behind(request: &Request) -> Awaited {
+    match request {
+        Request::Hello { session, .. } | Request::Bye { session } => Awaited::One(*session),
+        Request::Call { .. } => Awaited::Nothing,
+        Request::Go { .. } => Awaited::All,
+    }
+}
+
 /// A client on a link on which replies come.
 #[derive(Drop)]
 struct Player {
@@ -57,38 +77,79 @@ const SESSIONS: usize = 4;
 /// How many replies are waited for at most, behind a request.
 const REPLIES: usize = 10;
 
+/// The outcomes of each session before it calls.
+fn no_outcomes(alloc: Global) -> Result<Vec<Vec<u8>>, AllocError> {
+    let mut outcomes = Vec::new(alloc);
+    for _ in 0..SESSIONS {
+        outcomes.push(Vec::new(alloc))?;
+    }
+    Ok(outcomes)
+}
+
 impl Player {
     fn new(alloc: Global, of: Stage, replies: &[u8]) -> Result<Player, AllocError> {
-        let mut outcomes = Vec::new(alloc);
-        for _ in 0..SESSIONS {
-            outcomes.push(Vec::new(alloc))?;
-        }
+        let outcomes = no_outcomes(alloc)?;
+        let coming = Vec::from_slice(alloc, replies)?;
+        let code = code_of(alloc, of.text)?;
         Ok(Player {
             alloc,
-            core: AskCore::new(alloc, code_of(alloc, of.text)?),
-            link: link_with(alloc, Vec::from_slice(alloc, replies)?),
-            told: Told {
-                outcomes,
-                count: 0,
-                sent: Vec::new(alloc),
-                whole: false,
-            },
+            core: AskCore::new(alloc, code),
+            link: link_with(alloc, coming),
+            told: Told::new(alloc, outcomes),
         })
+    }
+
+    /// Asks all these requests, up to the first one behind which the client doesn't go on.
+    fn ask_all(&mut self, asked: &[u8]) -> Result<(), AllocError> {
+        let mut requests = link_with(self.alloc, Vec::from_slice(self.alloc, asked)?);
+        for _ in 0..=asked.len() {
+            if !self.ask_next(&mut requests)? {
+                break;
+            }
+        }
+        Ok(())
+    }
+
+    /// Asks the next of the requests on a link. Whether the client goes on.
+    fn ask_next(&mut self, requests: &mut MemLink) -> Result<bool, AllocError> {
+        match read_request(self.alloc, requests) {
+            Ok(request) => self.ask(&request),
+            Err(ReadStop::End) => {
+                self.told.whole = true;
+                Ok(false)
+            }
+            Err(_) => Ok(false),
+        }
     }
 
     /// Asks this, and takes what is replied. Whether the client goes on; it does where it may not ask this now.
     fn ask(&mut self, request: &Request) -> Result<bool, AllocError> {
-        let (asked, awaited) = match request {
+        match self.request(request) {
+            Ok(sent) => {
+                self.send(&sent)?;
+                self.take_awaited(awaited_behind(request))
+            }
+            Err(AskFault::NoMemory) => Err(AllocError),
+            Err(_) => Ok(true),
+        }
+    }
+
+    fn send(&mut self, request: &Request) -> Result<(), AllocError> {
+        let bytes = request_bytes(self.alloc, request)?;
+        self.told.sent.extend_from_slice(&bytes)
+    }
+
+    /// The client's own request that asks the same.
+    fn request(&mut self, request: &Request) -> Result<Request, AskFault> {
+        match request {
             Request::Hello {
                 session,
                 kept,
                 state,
                 ..
-            } => {
-                let size = (*kept).min(1024);
-                let asked = self.core.hello(*session, size, state.as_bytes());
-                (asked, Awaited::One(*session))
-            }
+            } => self
+                .core
+                .hello(*session, (*kept).min(1024), state.as_bytes()),
             Request::Call {
                 session,
                 role,
@@ -96,20 +157,10 @@ impl Player {
                 argument,
             } => {
                 let fuel = (*fuel).min(MOST_FUEL);
-                let asked = self.core.call(*session, *role, fuel, argument.as_bytes());
-                (asked, Awaited::Nothing)
+                self.core.call(*session, *role, fuel, argument.as_bytes())
             }
-            Request::Go { rounds } => (self.go(*rounds), Awaited::All),
-            Request::Bye { session } => (self.core.bye(*session), Awaited::One(*session)),
-        };
-        match asked {
-            Ok(request) => {
-                let bytes = request_bytes(self.alloc, &request)?;
-                self.told.sent.extend_from_slice(&bytes)?;
-                self.take_awaited(awaited)
-            }
-            Err(AskFault::NoMemory) => Err(AllocError),
-            Err(_) => Ok(true),
+            Request::Go { rounds } => self.go(*rounds),
+            Request::Bye { session } => self.core.bye(*session),
         }
     }
 
@@ -193,20 +244,7 @@ fn trap_number(trap: Trap) -> u8 {
 /// What a client is told that asks this, where these replies come.
 pub fn told_of(alloc: Global, of: Stage, asked: &[u8], replies: &[u8]) -> Result<Told, AllocError> {
     let mut player = Player::new(alloc, of, replies)?;
-    let mut requests = link_with(alloc, Vec::from_slice(alloc, asked)?);
-    for _ in 0..=asked.len() {
-        let goes_on = match read_request(alloc, &mut requests) {
-            Ok(request) => player.ask(&request)?,
-            Err(ReadStop::End) => {
-                player.told.whole = true;
-                false
-            }
-            Err(_) => false,
-        };
-        if !goes_on {
-            break;
-        }
-    }
-    let Player { told, .. } = player;
-    Ok(told)
+    player.ask_all(asked)?;
+    let none = Told::new(alloc, Vec::new(alloc));
+    Ok(mem::replace(&mut player.told, none))
 }

@@ -4,11 +4,11 @@ ghost use Rattle.std.specs.Process.{exit_status};
 ghost use Rattle.command_words.specs.CommandLine.{AreRefused};
 ghost use Rattle.command_words.specs.Commands.{texts};
 
-use crate::net::HostNet;
 use auth_cli::run;
 use command_parts::{Halt, tell};
 use host_disk::HostDisk;
 use host_files::{HostFiles, HostSink};
+use host_net::HostNet;
 use std::alloc::AllocError;
 use std::process::{ExitCode, Termination};
 use std::thread::Threads;
@@ -17,6 +17,15 @@ use std::thread::Threads;
 #[derive(Clone, Copy, Debug, PartialEq, Eq)]
 pub struct RunEnd {
     status: u8,
+}
+
+impl RunEnd {
+    /// The status of the run.
+    pub fn status(self) -> u8
+        ensures { result ≡ self.status }
+    {
+        self.status
+    }
 }
 
 impl Termination for RunEnd {
@@ -80,41 +89,4 @@ fn run_on<R: Threads + Sync>(threads: &R, rt: &HostRuntime, words: &[&str]) -> R
     );
     net.end_link();
     RunEnd { status }
-}
-
-#[cfg(test)]
-mod tests {
-    use super::ended;
-    use command_parts::Halt;
-    use host_files::HostFiles;
-    use lam_outside::Files;
-    use std::alloc::{AllocError, Global};
-    use std::fs;
-    use std::test::Fail;
-
-    const PROGRAM: &str = "/tmp/lamauth_program_of_a_test";
-
-    const TEXT: &[u8] =
-        b"state int; init make(x: int): int = x; query more(s: int, x: int): int = add(s, x);";
-
-    fn words(alloc: Global, all: &[&str]) -> Result<Vec<String>, AllocError> {
-        let mut words = Vec::new(alloc);
-        for word in all {
-            words.push(String::from_str(alloc, word)?)?;
-        }
-        Ok(words)
-    }
-
-    #[test]
-    fn a_run_ends_with_its_status(rt: HostRuntime) -> Result<(), Fail> {
-        let alloc = rt.alloc();
-        let check = &["lamauth", "check", PROGRAM];
-        assert!(rt; HostFiles::new(&rt).store(PROGRAM, TEXT).is_ok());
-        assert!(rt; ended(&rt, &rt, Ok(words(alloc, check)?)).status == 0);
-        let _ = fs::remove_file(&rt, PROGRAM);
-        assert!(rt; ended(&rt, &rt, Ok(words(alloc, check)?)).status == 8);
-        assert!(rt; ended(&rt, &rt, Ok(words(alloc, &["lamauth"])?)).status == 2);
-        assert!(rt; ended(&rt, &rt, Err(Halt::NoMemory)).status == 10);
-        Ok(())
-    }
 }

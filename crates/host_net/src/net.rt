@@ -70,7 +70,7 @@ impl<'a> HostNet<'a> {
 }
 
 impl Source for HostNet<'_> {
-    ghost use Rattle.lamauth.specs.HostNets.{Beyond, beyond_of};
+    ghost use Rattle.host_net.specs.HostNets.{Beyond, beyond_of};
 
     ghost given = { λ _. None };
 
@@ -98,7 +98,7 @@ impl Source for HostNet<'_> {
 }
 
 impl Link for HostNet<'_> {
-    ghost use Rattle.lamauth.specs.HostNets.{Beyond, beyond_of};
+    ghost use Rattle.host_net.specs.HostNets.{Beyond, beyond_of};
 
     ghost Beyond = { Beyond };
 
@@ -119,7 +119,7 @@ impl Link for HostNet<'_> {
 
 impl Net for HostNet<'_> {
     ghost use Rattle.std.proofs.Common.{ap};
-    ghost use Rattle.lamauth.specs.HostNets.{linked_port, listened_port};
+    ghost use Rattle.host_net.specs.HostNets.{linked_port, listened_port};
 
     ghost ended = { λ _. None };
 
@@ -272,7 +272,7 @@ fn sent(standing: &mut Option<TcpStream>, piece: &[u8]) -> Option<usize>
 }
 
 #[cfg(test)]
-pub mod tests {
+mod tests {
     use super::HostNet;
     use lam_outside::{Failed, Link, Net, Source};
     use std::io::Write;
@@ -287,11 +287,6 @@ pub mod tests {
             }
         }
         0
-    }
-
-    /// A port that is free.
-    pub fn free_port(rt: &HostRuntime) -> u16 {
-        listens(&mut HostNet::new(rt))
     }
 
     #[test]

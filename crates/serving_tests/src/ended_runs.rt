@@ -1,8 +1,9 @@
-// How a link that `serve` ends looks to its peer, over TCP.
-use crate::ending::{RunEnd, ended};
-use crate::net::tests::free_port;
+// How runs over the files and links of this machine end, and how a link that `serve` ends looks to its peer, over TCP.
+use command_parts::Halt;
 use host_files::HostFiles;
-use lam_outside::Files;
+use host_net::HostNet;
+use host_run::{RunEnd, ended};
+use lam_outside::{Files, Net};
 use std::alloc::AllocError;
 use std::fs;
 use std::io::{self, Read, Write};
@@ -10,6 +11,8 @@ use std::net::{Ipv4Addr, Shutdown, TcpStream};
 use std::test::Fail;
 use std::thread::{Threads, join, sleep};
 use std::time::Duration;
+
+const CHECKED: &str = "/tmp/lamauth_program_of_a_test";
 
 const PROGRAM: &str = "/tmp/lamauth_program_of_ended_links";
 
@@ -38,6 +41,34 @@ fn run<R: Threads + Sync>(threads: &R, rt: &HostRuntime, line: &str) -> Result<R
         words.push(String::from_str(rt.alloc(), word)?)?;
     }
     Ok(ended(threads, rt, Ok(words)))
+}
+
+/// The status of a run on these words.
+fn status<R: Threads + Sync>(threads: &R, rt: &HostRuntime, line: &str) -> Result<u8, AllocError> {
+    Ok(run(threads, rt, line)?.status())
+}
+
+#[test]
+fn a_run_ends_with_its_status(rt: HostRuntime) -> Result<(), Fail> {
+    let check = format!(in rt.alloc(); "lamauth check {CHECKED}")?;
+    assert!(rt; HostFiles::new(&rt).store(CHECKED, TEXT).is_ok());
+    assert!(rt; status(&rt, &rt, &check)? == 0);
+    let _ = fs::remove_file(&rt, CHECKED);
+    assert!(rt; status(&rt, &rt, &check)? == 8);
+    assert!(rt; status(&rt, &rt, "lamauth")? == 2);
+    assert!(rt; ended(&rt, &rt, Err(Halt::NoMemory)).status() == 10);
+    Ok(())
+}
+
+/// A port that is free.
+fn free_port(rt: &HostRuntime) -> u16 {
+    let mut net = HostNet::new(rt);
+    for port in 27_300..27_400 {
+        if net.listen(port).is_ok() {
+            return port;
+        }
+    }
+    0
 }
 
 /// A link to this port, as soon as it is listened to.

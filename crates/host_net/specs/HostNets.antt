@@ -1,6 +1,6 @@
 -- What the net of the machine tells: its ports and its counts, and nothing of what comes and is sent.
 use Rattle.std.specs.Prelude.{ℕ, Option, option_map}
-use Rattle.lamauth.specs.declared.net.HostNet.{HostNet}
+use Rattle.host_net.specs.declared.net.HostNet.{HostNet}
 
 -- the port of the link that was made last, and the one that is listened to
 abbrev pub linked_port : HostNet → Option ℕ
